@@ -1,0 +1,4 @@
+pub mod Entries
+pub mod Fronts
+pub mod Laid
+pub mod Rows

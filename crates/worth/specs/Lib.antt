@@ -1,0 +1,5 @@
+pub mod Group
+pub mod Says
+pub mod Totals
+pub mod Least
+pub mod Models
