@@ -1,73 +1,38 @@
-// Prints the tape on standard input as text, a line a record.
+// Prints the tape on standard input as text: a line for its header and for each record.
+use listing::list::list_tape;
+use std::env;
 use std::error::AnyError;
 use std::io::Read;
-use tape::header::Header;
-use tape::header::Kind;
-use tape::read::read_header;
-use tape::read::read_record;
-use tape::record::Record;
+use std::io::Write;
 
-fn print_heading(rt: &LibcRuntime, header: &Header) -> Result<(), AnyError> {
-    let book = header.book;
-    let products = header.products;
-    match header.kind {
-        Kind::Plain => println!(rt, "book {book} products {products} kind plain")?,
-        Kind::Strict => println!(rt, "book {book} products {products} kind strict")?,
-    }
-    Ok(())
-}
+const HELP: &str = "\
+usage: tapelist < TAPE
 
-fn print_record(rt: &LibcRuntime, header: &Header, found: &Record) -> Result<(), AnyError> {
-    let n = (header.products as usize).min(16);
-    match found {
-        Record::Open(prices) => {
-            print!(rt, "O")?;
-            for price in &prices[0..n] {
-                print!(rt, " {price}")?;
-            }
+Prints the tape on standard input as text: `book B products P kind K`, then a line a record,
+as `O 10 20`, `T 2 0` or `C`. Where the tape breaks, the last line is `NO 13` to `NO 16`.
+`mktape` turns the text back into the tape.
+";
+
+fn asked_for_help(rt: &LibcRuntime) -> Result<bool, AnyError> {
+    for arg in env::args(rt)?.skip(1) {
+        if arg.as_str() == "--help" {
+            return Ok(true);
         }
-        Record::Offer(quantities) => {
-            print!(rt, "T")?;
-            for quantity in &quantities[0..n] {
-                print!(rt, " {quantity}")?;
-            }
-        }
-        Record::Confirm => print!(rt, "C")?,
-        Record::Withdraw => print!(rt, "W")?,
-        Record::Close => print!(rt, "S")?,
-        Record::Sheet => print!(rt, "V")?,
+        return Err("tapelist takes a tape on standard input, and no argument but --help".into());
     }
-    println!(rt, "")?;
-    Ok(())
+    Ok(false)
 }
 
 fn run(rt: &LibcRuntime) -> Result<(), AnyError> {
+    if asked_for_help(rt)? {
+        rt.print(HELP)?;
+        return Ok(());
+    }
     let mut tape = Vec::new(rt.alloc());
     rt.stdin().read_to_end(&mut tape)?;
-    let (header, records) = match read_header(&tape) {
-        Ok(front) => front,
-        Err(e) => {
-            let number = e.number();
-            println!(rt, "NO {number}")?;
-            return Ok(());
-        }
-    };
-    print_heading(rt, &header)?;
-    let mut rest = records;
-    for _ in 0..records.len() {
-        match read_record(&header, rest) {
-            Ok(Some((found, more))) => {
-                print_record(rt, &header, &found)?;
-                rest = more;
-            }
-            Ok(None) => break,
-            Err(e) => {
-                let number = e.number();
-                println!(rt, "NO {number}")?;
-                break;
-            }
-        }
-    }
+    let mut text = Vec::new(rt.alloc());
+    list_tape(&tape, &mut text)?;
+    rt.stdout().write_all(&text)?;
     Ok(())
 }
 

@@ -4,3 +4,4 @@ pub mod Amounts
 pub mod Leasts
 pub mod Totals
 pub mod Pairs
+pub mod Models

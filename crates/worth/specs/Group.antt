@@ -21,7 +21,7 @@ pub record Group : Type 1 where
   pub less : Carrier → Carrier → Bool
   -- a whole number of units of money
   pub amount : ℤ → Carrier
-  -- a small step of the kind's own
+  -- the lead that a chosen package must have over every other
   pub notch : Carrier
   -- the two whole numbers by which a meaning is told
   pub tell : Carrier → ℤ × ℤ

@@ -57,7 +57,7 @@ pub trait OrderedWorth: Worth {
     fn amount(d: i64) -> Self
         ensures exact { λ r. ⌜ exact-amount (Self·Worth .group) (Self·Worth .meaning) d r ⌝ };
 
-    /// The notch, a small step of the kind's own.
+    /// The notch: the lead that a chosen package must have over every other.
     fn notch() -> Self
         ensures value { λ r. ⌜ Self·Worth .meaning r ≡ Self·Worth .group .notch ⌝ };
 
