@@ -3,7 +3,5 @@ pub mod error;
 pub mod list;
 pub mod make;
 pub mod read;
-#[cfg(test)]
-mod tests;
 mod words;
 pub mod write;

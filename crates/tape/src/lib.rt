@@ -4,6 +4,4 @@ pub mod header;
 pub mod number;
 pub mod read;
 pub mod record;
-#[cfg(test)]
-mod tests;
 pub mod write;

@@ -7,8 +7,6 @@ ghost use Rattle.worth.specs.Totals.{exact-total};
 
 mod plain;
 mod strict;
-#[cfg(test)]
-mod tests;
 
 pub use plain::PlainMoney;
 pub use plain::PlainMoneyDebug;

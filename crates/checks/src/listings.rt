@@ -1,9 +1,9 @@
-use crate::error::BadLine;
-use crate::error::BadLineDebug;
-use crate::error::BadLinePartialEq;
-use crate::error::LineError;
-use crate::list::list_tape;
-use crate::make::make_tape;
+use listing::error::BadLine;
+use listing::error::BadLineDebug;
+use listing::error::BadLinePartialEq;
+use listing::error::LineError;
+use listing::list::list_tape;
+use listing::make::make_tape;
 use std::test::*;
 
 // A tape of book 7 with 2 products and plain worths: an opening at 10 and 20, an offer of 2 and 0, and a confirmation.

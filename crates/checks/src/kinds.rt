@@ -1,5 +1,19 @@
-use super::*;
 use std::test::*;
+use worth::OrderedWorth;
+use worth::PlainMoney;
+use worth::PlainMoneyDebug;
+use worth::PlainMoneyPartialEq;
+use worth::PlainOrdered;
+use worth::PlainWorth;
+use worth::StrictMoney;
+use worth::StrictMoneyDebug;
+use worth::StrictMoneyPartialEq;
+use worth::StrictOrdered;
+use worth::StrictWorth;
+use worth::Worth;
+use worth::difference;
+use worth::smaller;
+use worth::total;
 
 fn plain(value: i64) -> PlainMoney {
     PlainMoney { value }

@@ -1,18 +1,18 @@
-use crate::error::TapeError;
-use crate::error::TapeErrorDebug;
-use crate::error::TapeErrorPartialEq;
-use crate::header::Header;
-use crate::header::Kind;
-use crate::header::KindDebug;
-use crate::header::KindPartialEq;
-use crate::number::write_number;
-use crate::number::write_signed;
-use crate::read::read_header;
-use crate::read::read_record;
-use crate::record::Record;
-use crate::write::write_header;
-use crate::write::write_record;
 use std::test::*;
+use tape::error::TapeError;
+use tape::error::TapeErrorDebug;
+use tape::error::TapeErrorPartialEq;
+use tape::header::Header;
+use tape::header::Kind;
+use tape::header::KindDebug;
+use tape::header::KindPartialEq;
+use tape::number::write_number;
+use tape::number::write_signed;
+use tape::read::read_header;
+use tape::read::read_record;
+use tape::record::Record;
+use tape::write::write_header;
+use tape::write::write_record;
 
 const TWO: Header = Header {
     book: 7,

@@ -1,0 +1,5 @@
+pub mod Costs
+pub mod Rolls
+pub mod Places
+pub mod Laws
+pub mod Sheets

@@ -1,0 +1,5 @@
+pub mod Sift
+pub mod Lists
+pub mod Found
+pub mod Moves
+pub mod Places

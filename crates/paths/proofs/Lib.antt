@@ -1,0 +1,15 @@
+pub mod Chains
+pub mod Lists
+pub mod Table
+pub mod OneMore
+pub mod Highest
+pub mod Counts
+pub mod Moves
+pub mod Links
+pub mod Relax
+pub mod Turns
+pub mod Ends
+pub mod Short
+pub mod Trace
+pub mod Enter
+pub mod Queue

@@ -1,0 +1,12 @@
+pub mod Bids
+pub mod Graph
+pub mod Values
+pub mod Route
+pub mod Theorems
+pub mod Counts
+pub mod Searching
+pub mod Tracing
+pub mod Queued
+pub mod Looks
+pub mod Weighs
+pub mod Entry

@@ -1,0 +1,5 @@
+pub mod Orders
+pub mod Memory
+pub mod Puts
+pub mod Takes
+pub mod Uses

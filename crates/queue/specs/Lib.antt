@@ -1,0 +1,4 @@
+pub mod Contents
+pub mod Order
+pub mod Answers
+pub mod Calls
