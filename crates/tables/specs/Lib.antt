@@ -1,0 +1,5 @@
+pub mod Tables
+pub mod View
+pub mod Readings
+pub mod Known
+pub mod Changes
