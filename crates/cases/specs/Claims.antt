@@ -36,7 +36,7 @@ pub record Grounds (k : Money) : Type 0 where
   pub inner : List (Value k)
   -- for each package a chain that ends there and sums to its inner worth
   pub chains : List (List Step)
-  -- a package and a round in which it StoodIn, where cost less inner worth is greatest
+  -- a package and a round in which it stood, where cost less inner worth is greatest
   pub top_package : ℕ
   pub top_round : ℕ
 
@@ -85,13 +85,13 @@ module _ (G : Group) (rounds : List Round) where
 
   infixl 65 ◌⊕◌
   -- The steps lead from one package to another, each from where the one before ended and in a round in which the package
-  -- that it leaves StoodIn. They come to these values one by one, and to s together.
+  -- that it leaves stood. They come to these values one by one, and to s together.
   abbrev pub IsChain : List Step → List Carrier → Carrier → Type 0
   IsChain ls values s =
       (a : ℕ) × (b : ℕ) × Leads G (graph_of G rounds) (StoodIn (bids_of rounds)) a ls b
       × (map (value_of G (graph_of G rounds)) ls ≡ values) × (sum_of G (graph_of G rounds) ls ≡ s)
 
-  -- wherever two packages StoodIn, the step from the one to the other and the step back sum to s
+  -- wherever two packages stood, the step from the one to the other and the step back sum to s
   abbrev pub PairsAre : Carrier → Type 0
   PairsAre s = (t u : ℕ) (x y : List ℕ) → Stood rounds t x → Stood rounds u y → y ≢ x → step G rounds x y t ⊕ step G rounds y x u ≡ s
 

@@ -76,7 +76,7 @@ module _ (R : List Round) (row : List ℕ) (t : ℕ) (latest : t + 1 ≡ length 
     | inr h ↦ ap (λ ys. get_or ys a []) (grows h) ∙ get_d_front (roll R) row a on
   ]
 
-  -- the bids before the latest round are those that StoodIn
+  -- the bids before the latest round are those that stood
   pub earlier_stood : (s a : ℕ) → Earlier R' s a → StoodIn (bids_of R) s a
   earlier_stood s a old =
       let p = package_stood R' s a old.1 in

@@ -10,7 +10,7 @@ use Rattle.paths.specs.Graph as by_place
 use Rattle.worth.specs.Group.{Group}
 use Rattle.worth.specs.Says.{AtMost}
 
--- past the last round nothing StoodIn
+-- past the last round nothing stood
 pub stood_before : (rounds : List Round) (t : ℕ) (x : List ℕ) → Stood rounds t x → t < length rounds
 stood_before [] t x h = let z : ◌≡◌ {A = ℕ} 0 1 = cc in absurd (omega arith)
 stood_before (r ∷ rounds) zero x h = omega arith
@@ -39,7 +39,7 @@ module _ (rounds : List Round) where
   abbrev at : ℕ → List ℕ
   at a = package_at rounds a
 
-  -- a place StoodIn where its package did
+  -- a place stood where its package did
   pub place_stood : (t a : ℕ) → a < count → Stood rounds t (at a) → StoodIn (bids_of rounds) t a
   place_stood t a h s = (stood_before rounds t (at a) s, rw (lt-ltb a count h, s) (same_refl (at a)))
 

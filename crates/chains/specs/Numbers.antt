@@ -40,7 +40,7 @@ module _ (G : Group) (rounds : List Round) where
   chain_sum = total_of G worth_of
 
   -- A chain that forbids the bid of the latest round, for package x: it starts with a step of that bid in that round,
-  -- names no starting package twice, returns to x and sums Below zero.
+  -- names no starting package twice, returns to x and sums below zero.
   pub record Forbids (x : ℕ) (ls : List Step) : Type 0 where
     pub first : First (length rounds) ls
     pub around : Leads rounds x ls x

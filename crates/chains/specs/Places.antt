@@ -15,7 +15,7 @@ abbrev pub bids_for : Option (List ℕ) → List ℕ → Bool
 bids_for None y = false
 bids_for (Some x) y = same x y
 
--- which places StoodIn in which rounds
+-- which places stood in which rounds
 abbrev pub bids_of : List Round → Bids
 bids_of rounds = record {
   rounds = length rounds;
@@ -29,6 +29,6 @@ graph_of G rounds = record {
   step = λ a b t. step G rounds (package_at rounds a) (package_at rounds b) t;
 }
 
--- in round s, before the latest one, the package at place a StoodIn
+-- in round s, before the latest one, the package at place a stood
 abbrev pub Earlier : List Round → ℕ → ℕ → Type 0
 Earlier rounds s a = (s + 1 < length rounds) × StoodIn (bids_of rounds) s a

@@ -10,12 +10,12 @@ module _ (G : Group) (rounds : List Round) where
   open G use {Carrier, zero, add as ◌⊕◌, notch}
 
   infixl 65 ◌⊕◌
-  -- a chain around from x sums Below zero
+  -- a chain around from x sums below zero
   abbrev pub AroundBelow : List ℕ → Type 0
   AroundBelow x = (s : Carrier) × Chain G rounds x x s × Below G s zero
 
   pub record ChainLaws : Type 0 where
-    -- some worths explain the bids exactly when no chain around is Below zero
+    -- some worths explain the bids exactly when no chain around is below zero
     pub exactly : Explained G rounds ↔ ((x : List ℕ) → ¬ AroundBelow x)
     -- a package has at most one inner worth
     pub unique : (y : List ℕ) (g h : Carrier) → Inner G rounds y g → Inner G rounds y h → g ≡ h

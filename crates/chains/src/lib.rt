@@ -1,5 +1,7 @@
 //! Rounds, packages, costs, steps, chains and sheets of a sale, by definitions and laws: what bids say of a merchant's worths.
 
+#![tactic(auto)]
+
 ghost use Rattle.chains.specs.Laws.{BidsStand, PlainSheet};
 
 use worth::Worth;

@@ -1,6 +1,8 @@
 //! The ledger of one merchant's book: what was handed to the book, which refusal each call gets, and what a met call
 //! changes, by definitions and laws.
 
+#![tactic(auto)]
+
 ghost use Rattle.ledger.specs.Laws.{LedgerLaws};
 
 use worth::Worth;

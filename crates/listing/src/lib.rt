@@ -1,3 +1,5 @@
+#![tactic(auto)]
+
 // The text form of a tape: a line for its heading and for each record, written and read.
 pub mod error;
 pub mod list;

@@ -1,3 +1,5 @@
+#![tactic(auto)]
+
 // Turns the text on standard input into a tape on standard output.
 use anyhow::anyhow;
 use listing::error::BadLine;

@@ -47,7 +47,7 @@ module _ (G : Group) (L : Laws G) (N : Graph G) (Old : ℕ → ℕ → Type 0) (
     pub reached_fallen : (y : ℕ) → y < count → Below G (st.dist y) (d y) → Reached y
     reached_fallen y on f = let l = h.linked y on f in reached_on y on l (reached_done (st.from y) l.on l.done)
 
-  -- the chain that a step back to x closes is Below zero
+  -- the chain that a step back to x closes is below zero
   pub around_below : (a s : ℕ) → Closes G N Old x t d st next a s → AroundBelow G N (New Old x t) x
   around_below a s h =
       let r = reached_done h.search a h.on h.done in

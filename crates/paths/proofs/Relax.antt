@@ -57,7 +57,7 @@ module _ (G : Group) (L : Laws G) (N : Graph G) (Old : ℕ → ℕ → Type 0) (
             (subst (λ b. Below G (st'.dist a ⊕ step a b s) (st'.dist b)) e (subst (λ u. Below G u (st'.dist k)) is falls));
       }
 
-      -- no finished package but x is led Below
+      -- no finished package but x is led below
       pub not_done : k ≢ x → st'.turn k ≡ 0
       not_done ne = elim (ℕ_discrete (st'.turn k) 0) [
         | yes e ↦ e

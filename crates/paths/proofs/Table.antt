@@ -27,11 +27,11 @@ module _ (G : Group) (L : Laws G) (N : Graph G) (Stood : ℕ → ℕ → Type 0)
     near : (s : Carrier) → Chain G N Stood x y s → Cell x y
 
   -- the cell has a chain of at most s
-  abbrev AtMost : {x y : ℕ} → Cell x y → Carrier → Type 0
-  AtMost far s = ⊥
-  AtMost (near t c) s = t ≼ s
+  abbrev CellAtMost : {x y : ℕ} → Cell x y → Carrier → Type 0
+  CellAtMost far s = ⊥
+  CellAtMost (near t c) s = t ≼ s
 
-  up : {x y : ℕ} (a : Cell x y) {s u : Carrier} → AtMost a s → s ≼ u → AtMost a u
+  up : {x y : ℕ} (a : Cell x y) {s u : Carrier} → CellAtMost a s → s ≼ u → CellAtMost a u
   up far h k = h
   up (near t c) h k = le_trans G L _ _ _ h k
 
@@ -41,12 +41,12 @@ module _ (G : Group) (L : Laws G) (N : Graph G) (Stood : ℕ → ℕ → Type 0)
   both (near s c) far = far
   both (near s c) (near u d) = near (s ⊕ u) (join G L N Stood c d)
 
-  both_in : {x y z : ℕ} (a : Cell x y) (b : Cell y z) (s u : Carrier) → AtMost a s → AtMost b u → AtMost (both a b) (s ⊕ u)
+  both_in : {x y z : ℕ} (a : Cell x y) (b : Cell y z) (s u : Carrier) → CellAtMost a s → CellAtMost b u → CellAtMost (both a b) (s ⊕ u)
   both_in far b p q h k = h
   both_in (near s c) far p q h k = k
   both_in (near s c) (near u d) p q h k = add_le G L h k
 
-  both_out : {x y z : ℕ} (a : Cell x y) (b : Cell y z) (s : Carrier) → AtMost (both a b) s → (p : Carrier) × (q : Carrier) × AtMost a p × AtMost b q × (p ⊕ q ≼ s)
+  both_out : {x y z : ℕ} (a : Cell x y) (b : Cell y z) (s : Carrier) → CellAtMost (both a b) s → (p : Carrier) × (q : Carrier) × CellAtMost a p × CellAtMost b q × (p ⊕ q ≼ s)
   both_out far b s h = absurd h
   both_out (near p c) far s h = absurd h
   both_out (near p c) (near q d) s h = (p, q, le_refl G L p, le_refl G L q, h)
@@ -61,20 +61,20 @@ module _ (G : Group) (L : Laws G) (N : Graph G) (Stood : ℕ → ℕ → Type 0)
   lesser (near s c) far = near s c
   lesser (near s c) (near u d) = lesser_by c d (le_total G L s u)
 
-  lesser_left : {x y : ℕ} (a b : Cell x y) (s : Carrier) → AtMost a s → AtMost (lesser a b) s
+  lesser_left : {x y : ℕ} (a b : Cell x y) (s : Carrier) → CellAtMost a s → CellAtMost (lesser a b) s
   lesser_left far b s h = absurd h
   lesser_left (near p c) far s h = h
-  lesser_left (near p c) (near q d) s h = elim (le_total G L p q) as (λ v. AtMost (lesser_by c d v) s) [ inl k ↦ h | inr k ↦ le_trans G L _ _ _ k h ]
+  lesser_left (near p c) (near q d) s h = elim (le_total G L p q) as (λ v. CellAtMost (lesser_by c d v) s) [ inl k ↦ h | inr k ↦ le_trans G L _ _ _ k h ]
 
-  lesser_right : {x y : ℕ} (a b : Cell x y) (s : Carrier) → AtMost b s → AtMost (lesser a b) s
+  lesser_right : {x y : ℕ} (a b : Cell x y) (s : Carrier) → CellAtMost b s → CellAtMost (lesser a b) s
   lesser_right far b s h = h
   lesser_right (near p c) far s h = absurd h
-  lesser_right (near p c) (near q d) s h = elim (le_total G L p q) as (λ v. AtMost (lesser_by c d v) s) [ inl k ↦ le_trans G L _ _ _ k h | inr k ↦ h ]
+  lesser_right (near p c) (near q d) s h = elim (le_total G L p q) as (λ v. CellAtMost (lesser_by c d v) s) [ inl k ↦ le_trans G L _ _ _ k h | inr k ↦ h ]
 
-  lesser_out : {x y : ℕ} (a b : Cell x y) (s : Carrier) → AtMost (lesser a b) s → AtMost a s ⊎ AtMost b s
+  lesser_out : {x y : ℕ} (a b : Cell x y) (s : Carrier) → CellAtMost (lesser a b) s → CellAtMost a s ⊎ CellAtMost b s
   lesser_out far b s = λ h. inr h
   lesser_out (near p c) far s = λ h. inl h
-  lesser_out (near p c) (near q d) s = elim (le_total G L p q) as (λ v. AtMost (lesser_by c d v) s → (p ≼ s) ⊎ (q ≼ s)) [ inl k ↦ λ h. inl h | inr k ↦ λ h. inr h ]
+  lesser_out (near p c) (near q d) s = elim (le_total G L p q) as (λ v. CellAtMost (lesser_by c d v) s → (p ≼ s) ⊎ (q ≼ s)) [ inl k ↦ λ h. inl h | inr k ↦ λ h. inr h ]
 
   abbrev Table : Type 0
   Table = (x y : ℕ) → Cell x y
@@ -85,36 +85,36 @@ module _ (G : Group) (L : Laws G) (N : Graph G) (Stood : ℕ → ℕ → Type 0)
 
   -- ways over packages below n are in the table
   abbrev Closed : Table → ℕ → Type 0
-  Closed T n = (j x y : ℕ) (s u : Carrier) → j < n → AtMost (T x j) s → AtMost (T j y) u → AtMost (T x y) (s ⊕ u)
+  Closed T n = (j x y : ℕ) (s u : Carrier) → j < n → CellAtMost (T x j) s → CellAtMost (T j y) u → CellAtMost (T x y) (s ⊕ u)
 
-  module _ (T : Table) (k : ℕ) (closed : Closed T k) (rises : (s : Carrier) → AtMost (T k k) s → zero ≼ s) where
+  module _ (T : Table) (k : ℕ) (closed : Closed T k) (rises : (s : Carrier) → CellAtMost (T k k) s → zero ≼ s) where
     -- a way over k
     abbrev By : ℕ → ℕ → Carrier → Type 0
-    By x y s = (p : Carrier) × (q : Carrier) × AtMost (T x k) p × AtMost (T k y) q × (p ⊕ q ≼ s)
+    By x y s = (p : Carrier) × (q : Carrier) × CellAtMost (T x k) p × CellAtMost (T k y) q × (p ⊕ q ≼ s)
 
-    out : (x y : ℕ) (s : Carrier) → AtMost (next k T x y) s → AtMost (T x y) s ⊎ By x y s
+    out : (x y : ℕ) (s : Carrier) → CellAtMost (next k T x y) s → CellAtMost (T x y) s ⊎ By x y s
     out x y s h = elim (lesser_out (T x y) (both (T x k) (T k y)) s h) [ inl a ↦ inl a | inr b ↦ inr (both_out (T x k) (T k y) s b) ]
 
-    old : (x y : ℕ) (s : Carrier) → AtMost (T x y) s → AtMost (next k T x y) s
+    old : (x y : ℕ) (s : Carrier) → CellAtMost (T x y) s → CellAtMost (next k T x y) s
     old x y s h = lesser_left (T x y) _ s h
 
-    by : (x y : ℕ) (p q s : Carrier) → AtMost (T x k) p → AtMost (T k y) q → p ⊕ q ≼ s → AtMost (next k T x y) s
+    by : (x y : ℕ) (p q s : Carrier) → CellAtMost (T x k) p → CellAtMost (T k y) q → p ⊕ q ≼ s → CellAtMost (next k T x y) s
     by x y p q s a b h = lesser_right (T x y) _ s (up (both (T x k) (T k y)) (both_in (T x k) (T k y) p q a b) h)
 
     -- to k and from k the table stays as it was
-    to : (x : ℕ) (s : Carrier) → AtMost (next k T x k) s → AtMost (T x k) s
+    to : (x : ℕ) (s : Carrier) → CellAtMost (next k T x k) s → CellAtMost (T x k) s
     to x s h = elim (out x k s h) [ inl a ↦ a | inr w ↦ up (T x k) w.2 (follows G L (add_le G L (rises _ w.3) w.4) (simp plain)) ]
 
-    from : (y : ℕ) (s : Carrier) → AtMost (next k T k y) s → AtMost (T k y) s
+    from : (y : ℕ) (s : Carrier) → CellAtMost (next k T k y) s → CellAtMost (T k y) s
     from y s h = elim (out k y s h) [ inl a ↦ a | inr w ↦ up (T k y) w.3 (follows G L (add_le G L (rises _ w.2) w.4) (simp plain)) ]
 
     closed_next : Closed (next k T) (suc k)
     closed_next j x y s u within a b = elim (ℕ_discrete j k) [ yes e ↦ at_k e | no e ↦ below_k (omega arith) (out x j s a) (out j y u b) ]
       where
-        at_k : j ≡ k → AtMost (next k T x y) (s ⊕ u)
+        at_k : j ≡ k → CellAtMost (next k T x y) (s ⊕ u)
         at_k e = by x y s u (s ⊕ u) (to x s (rw e at a)) (from y u (rw e at b)) (le_refl G L _)
 
-        below_k : j < k → AtMost (T x j) s ⊎ By x j s → AtMost (T j y) u ⊎ By j y u → AtMost (next k T x y) (s ⊕ u)
+        below_k : j < k → CellAtMost (T x j) s ⊎ By x j s → CellAtMost (T j y) u ⊎ By j y u → CellAtMost (next k T x y) (s ⊕ u)
         below_k h (inl a) (inl b) = old x y _ (closed j x y s u h a b)
         below_k h (inl a) (inr w) = by x y _ _ _ (closed j x k s w.0 h a w.2) w.3 (follows G L w.4 (simp plain))
         below_k h (inr v) (inl b) = by x y _ _ _ v.2 (closed j k y v.1 u h v.3 b) (follows G L v.4 (simp plain))
@@ -124,11 +124,11 @@ module _ (G : Group) (L : Laws G) (N : Graph G) (Stood : ℕ → ℕ → Type 0)
 
   -- every step is in the table
   abbrev Direct : Table → Type 0
-  Direct T = (t x y : ℕ) → Stood t x → y < count → y ≢ x → AtMost (T x y) (step x y t)
+  Direct T = (t x y : ℕ) → Stood t x → y < count → y ≢ x → CellAtMost (T x y) (step x y t)
 
   -- and so is every stay
   abbrev Home : Table → Type 0
-  Home T = (x : ℕ) → AtMost (T x x) zero
+  Home T = (x : ℕ) → CellAtMost (T x x) zero
 
   record Filled (n : ℕ) : Type 0 where
     T : Table
@@ -140,7 +140,7 @@ module _ (G : Group) (L : Laws G) (N : Graph G) (Stood : ℕ → ℕ → Type 0)
   when (yes a) f = f a
   when (no n) f = far
 
-  when_at : {A : Type 0} {x y : ℕ} (d : Dec A) (f : A → Cell x y) (s : Carrier) → A → ((a : A) → AtMost (f a) s) → AtMost (when d f) s
+  when_at : {A : Type 0} {x y : ℕ} (d : Dec A) (f : A → Cell x y) (s : Carrier) → A → ((a : A) → CellAtMost (f a) s) → CellAtMost (when d f) s
   when_at (yes a) f s is h = h a
   when_at (no n) f s is h = n is
 
@@ -166,7 +166,7 @@ module _ (G : Group) (L : Laws G) (N : Graph G) (Stood : ℕ → ℕ → Type 0)
     steps x y nought = far
     steps x y (suc n) = lesser (steps x y n) (when (dec_leaps x y n) (leap x y n))
 
-    steps_at : (t x y n : ℕ) → t < n → Stood t x → y < count → y ≢ x → AtMost (steps x y n) (step x y t)
+    steps_at : (t x y n : ℕ) → t < n → Stood t x → y < count → y ≢ x → CellAtMost (steps x y n) (step x y t)
     unfolding steps
     steps_at t x y nought early stands on other = absurd (omega arith)
     steps_at t x y (suc n) early stands on other = elim (ℕ_discrete t n) [
@@ -190,7 +190,7 @@ module _ (G : Group) (L : Laws G) (N : Graph G) (Stood : ℕ → ℕ → Type 0)
     }
 
     -- a chain around is below zero, or those of a cell are not
-    rise : {k : ℕ} (a : Cell k k) → AroundBelow G N Stood k ⊎ ((s : Carrier) → AtMost a s → zero ≼ s)
+    rise : {k : ℕ} (a : Cell k k) → AroundBelow G N Stood k ⊎ ((s : Carrier) → CellAtMost a s → zero ≼ s)
     rise far = inr (λ s h. absurd h)
     rise (near s c) = elim (le_or_lt G L zero s) [ inl h ↦ inr (λ u g. le_trans G L _ _ _ h g) | inr f ↦ inl (s, c, f) ]
 
@@ -215,7 +215,7 @@ module _ (G : Group) (L : Laws G) (N : Graph G) (Stood : ℕ → ℕ → Type 0)
 
     module _ (within : Within count Stood) (f : Filled count) where
       -- the table holds every chain
-      bound : {x y : ℕ} {s : Carrier} → Chain G N Stood x y s → AtMost (f.T x y) s
+      bound : {x y : ℕ} {s : Carrier} → Chain G N Stood x y s → CellAtMost (f.T x y) s
       bound {x = x} stay = f.home x
       bound {x = x} (onward {y = y} {z = z} {t = t} {s = s} c stands on other) = f.closed y x z s _ (within t y stands) (bound c) (f.direct t y z stands on other)
 
@@ -224,13 +224,13 @@ module _ (G : Group) (L : Laws G) (N : Graph G) (Stood : ℕ → ℕ → Type 0)
         start : ℕ
         sum : Carrier
         chain : Chain G N Stood start y sum
-        least : (x : ℕ) (s : Carrier) → x < n → AtMost (f.T x y) s → sum ≼ s
+        least : (x : ℕ) (s : Carrier) → x < n → CellAtMost (f.T x y) s → sum ≼ s
 
       lowest : (n y : ℕ) → Lowest n y
       lowest nought y = record { start = y; sum = zero; chain = stay; least = λ x s h a. absurd (omega arith) }
       lowest (suc n) y = go (f.T n y) (λ s h. h) (lowest n y)
         where
-          go : (a : Cell n y) → ((s : Carrier) → AtMost (f.T n y) s → AtMost a s) → Lowest n y → Lowest (suc n) y
+          go : (a : Cell n y) → ((s : Carrier) → CellAtMost (f.T n y) s → CellAtMost a s) → Lowest n y → Lowest (suc n) y
           go far is l = record {
             start = l.start;
             sum = l.sum;

@@ -4,7 +4,7 @@ use Rattle.worth.specs.Group.{Group}
 use Rattle.worth.specs.Says.{AtMost, Below}
 use Rattle.worth.specs.Least.{Least}
 
--- The packages are the numbers Below `count`. Where package a stood in round t, b is worth at most `step a b t` more.
+-- The packages are the numbers below `count`. Where package a stood in round t, b is worth at most `step a b t` more.
 pub record Graph (G : Group) : Type 0 where
   pub count : ℕ
   pub step : ℕ → ℕ → ℕ → G.Carrier
@@ -19,7 +19,7 @@ module _ (G : Group) (N : Graph G) (Stood : ℕ → ℕ → Type 0) where
     stay : {x : ℕ} → Chain x x zero
     onward : {x y z t : ℕ} {s : Carrier} → Chain x y s → Stood t y → z < count → z ≢ y → Chain x z (s ⊕ step y z t)
 
-  -- a chain around from x is Below zero
+  -- a chain around from x is below zero
   abbrev pub AroundBelow : ℕ → Type 0
   AroundBelow x = (s : Carrier) × Chain x x s × Below G s zero
 

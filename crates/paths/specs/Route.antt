@@ -36,7 +36,7 @@ module _ (G : Group) (N : Graph G) where
     Leads x [] y = x ≡ y
     Leads x (l ∷ ls) y = (l.from ≡ x) × Stood l.round l.from × (l.to < N.count) × (l.to ≢ l.from) × Leads l.to ls y
 
-    -- a chain around from x that is Below zero, by way of x's bid in round t, and leaves no package twice
+    -- a chain around from x that is below zero, by way of x's bid in round t, and leaves no package twice
     pub record Route (x t : ℕ) (ls : List Step) : Type 0 where
       pub leads : Leads x ls x
       pub apart : Apart ls

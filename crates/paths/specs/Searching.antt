@@ -97,7 +97,7 @@ module _ (G : Group) (N : Graph G) (Old : ℕ → ℕ → Type 0) (x t : ℕ) (d
     pub before : 0 < st.turn y → st.turn (st.from y) < st.turn y
     pub first : st.from y ≡ x → st.at y ≡ t
 
-  -- What every part of the search keeps; the turns so far are Below `next`.
+  -- What every part of the search keeps; the turns so far are below `next`.
   pub record Searching (st : State G) (next : ℕ) : Type 0 where
     -- x is finished, at its worth before
     pub root : 0 < st.turn x
@@ -124,14 +124,14 @@ module _ (G : Group) (N : Graph G) (Old : ℕ → ℕ → Type 0) (x t : ℕ) (d
     pub near : G.size (st.dist a) ≤ 2 ^ 45 * j
     pub far : j < 256
 
-  -- Those to packages Below k have been looked at.
+  -- Those to packages below k have been looked at.
   pub record Relaxed (st st' : State G) (next a s j k : ℕ) : Type 0 where
     pub search : Searching st' next
     pub lower : Lower G st st'
     pub sized : Small G N st'.dist (j + 1)
     pub met : (b : ℕ) → b < k → b ≢ a → AtMost G (st'.dist b) (st'.dist a ⊕ step a b s)
 
-  -- A step from a in round s leads back to x, Below its worth before.
+  -- A step from a in round s leads back to x, below its worth before.
   pub record Closes (st : State G) (next a s : ℕ) : Type 0 where
     pub search : Searching st next
     pub on : a < count
@@ -152,7 +152,7 @@ module _ (G : Group) (N : Graph G) (Old : ℕ → ℕ → Type 0) (x t : ℕ) (d
     pub near : G.size (st.dist y) ≤ 2 ^ 45 * j
     pub far : j < 256
 
-  -- They have been looked at in the rounds Below k.
+  -- They have been looked at in the rounds below k.
   pub record Spent (st st' : State G) (next y j k : ℕ) : Type 0 where
     pub search : Searching st' next
     pub lower : Lower G st st'

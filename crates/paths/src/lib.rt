@@ -1,6 +1,8 @@
 //! Chains of steps between packages, and what they say of the worths of packages. This crate is theory: what its
 //! functions promise is proved of every kind of worth, and they do nothing.
 
+#![tactic(auto)]
+
 ghost use Rattle.paths.specs.Theorems.{Stands, Decides, Listed, HasGreatest};
 
 use worth::Worth;

@@ -3,6 +3,8 @@
 //! Each package that waits has a key, a worth of some kind. The package with the least key comes out first, and among
 //! equal keys the one with the lowest number.
 
+#![tactic(auto)]
+
 ghost use Rattle.std.specs.Prelude.{◌≡◌, ◌+◌, ◌-◌, ◌*◌, ◌/◌, ◌<◌, ◌≤◌, true, [], ◌∷◌, ◌++◌, length, get_or, take, if◌then◌else◌, MatchOption, ◌==◌, slice_index_or, slice_set};
 ghost use Rattle.heaps.specs.Found.{Absent};
 ghost use Rattle.heaps.specs.Heap.{parent, Heap, Rising, Sinking};

@@ -1,5 +1,7 @@
 //! How a queue is used: packages go in with their keys, and come out in order.
 
+#![tactic(auto)]
+
 ghost use Rattle.std.specs.Prelude.{◌≡◌, ℕ, length, if◌then◌else◌, Some, None, nat_lt};
 ghost use Rattle.queue.specs.Contents.{count, key_of};
 ghost use Rattle.queue_use.specs.Order.{order_of};

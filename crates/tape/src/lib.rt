@@ -1,3 +1,5 @@
+#![tactic(auto)]
+
 // The byte format of a tape, its header and its records, read and written; and numbers written in decimal.
 pub mod error;
 pub mod header;

@@ -1,3 +1,5 @@
+#![tactic(auto)]
+
 // Prints the tape on standard input as text: a line for its header and for each record.
 use anyhow::anyhow;
 use listing::list::list_tape;

@@ -1,5 +1,7 @@
 //! One more bid against the inner worths of the standing ones.
 
+#![tactic(auto)]
+
 ghost use Rattle.std.specs.Prelude.{◌≡◌, ℕ, ◌+◌, ◌<◌, ◌≤◌, min, length, drop};
 ghost use Rattle.chains.specs.Rounds.{roll};
 ghost use Rattle.tables.specs.Known.{worths as worths-of};

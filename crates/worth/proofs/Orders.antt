@@ -1,4 +1,4 @@
--- The order of a group: at most (≼) and Below (≺).
+-- The order of a group: at most (≼) and below (≺).
 use Rattle.std.proofs.Common.{◌≡◌, ◌⊎◌, sym, ap, ◌∙◌, inl, inr}
 use Rattle.std.proofs.lemmas.Bool.{cases_Bool, both_ways}
 use Rattle.worth.specs.Group.{Group, Laws}
@@ -49,7 +49,7 @@ module _ (G : Group) (L : Laws G) where
   pub le_total : (x y : Carrier) → (x ≼ y) ⊎ (y ≼ x)
   le_total x y = elim (le_or_lt x y) [ inl h ↦ inl h | inr h ↦ inr (lt_to_le y x h) ]
 
-  -- what is at most y is Below it or equal to it
+  -- what is at most y is below it or equal to it
   pub lt_or_eq : (x y : Carrier) → x ≼ y → (x ≺ y) ⊎ (x ≡ y)
   lt_or_eq x y h = elim (cases_Bool (less x y)) [ inl t ↦ inl t | inr f ↦ inr (L.less_tie x y f h) ]
 

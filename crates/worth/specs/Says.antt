@@ -7,7 +7,7 @@ module _ (G : Group) where
   abbrev pub AtMost : G.Carrier → G.Carrier → Type 0
   AtMost x y = G.less y x ≡ false
 
-  -- x is Below y, in proofs x ≺ y
+  -- x is below y, in proofs x ≺ y
   abbrev pub Below : G.Carrier → G.Carrier → Type 0
   Below x y = G.less x y ≡ true
 
@@ -29,7 +29,7 @@ module _ (G : Group) {X : Type 0} (m : X → G.Carrier) where
   abbrev pub ExactAmount : ℤ → X → Type 0
   ExactAmount d r = Amount d → m r ≡ G.amount d
 
-  -- whether x is Below y
+  -- whether x is below y
   abbrev pub less_of : X → X → Bool
   less_of x y = G.less (m x) (m y)
 

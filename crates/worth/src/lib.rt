@@ -1,5 +1,7 @@
 //! Kinds of worth: values that add, and values that are also judged.
 
+#![tactic(auto)]
+
 ghost use Rattle.std.specs.Prelude.{◌≡◌};
 ghost use Rattle.worth.specs.Group.{Group, Laws};
 ghost use Rattle.worth.specs.Says.{ExactSum, ExactDifference, ExactOpposite, ExactAmount, less_of, smaller_of};
@@ -56,7 +58,7 @@ pub trait OrderedWorth: Worth {
 
 /// The values together, exact where their sizes come to at most 2^60.
 pub fn total<W: Worth>(values: &[W]) -> W
-    ensures exact { ExactTotal group meaning values.now result }
+    ensures exact { ExactTotal W.Worth.group W.Worth.meaning values.now result }
 {
     let mut all = W::zero();
     for value in values {
@@ -67,7 +69,7 @@ pub fn total<W: Worth>(values: &[W]) -> W
 
 /// `a` without `b`, exact where their sizes come to at most 2^60.
 pub fn difference<W: Worth>(a: &W, b: &W) -> W
-    ensures exact { ExactDifference group meaning a.now b.now result }
+    ensures exact { ExactDifference W.Worth.group W.Worth.meaning a.now b.now result }
 {
     a.sum(&b.opposite())
 }

@@ -13,6 +13,6 @@ returns g c =
     let i = c.args.i in
     let e = c.args.e in
     record {
-      shuffled = c.sift-up.ensures.shuffled;
-      heap = λ ahead h. c.sift-up.ensures.heap (rise_set (Over G m) (over_chain G laws m) s i e c.requires (λ d. over_ahead G laws m e (get_or s i d) (ahead d)) h);
+      shuffled = c.sift_up.ensures.shuffled;
+      heap = λ ahead h. c.sift_up.ensures.heap (rise_set (Over G m) (over_chain G laws m) s i e c.requires (λ d. over_ahead G laws m e (get_or s i d) (ahead d)) h);
     }

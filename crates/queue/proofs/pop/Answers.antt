@@ -11,11 +11,11 @@ returns g c =
     let L = Over g.W.Worth.group g.W.Worth.meaning in
     let xs = c.args.s.now in
     let ys = c.swap.new.self in
-    let ts = c.sift-down.new.s in
+    let ts = c.sift_down.new.s in
     let x = c.index-s-0.result in
     let n = length xs - 1 in
     let swapped = c.swap.ensures in
-    let sunk = c.sift-down.ensures in
+    let sunk = c.sift_down.ensures in
     let back = taken_back ts _ ys n (n - 0) (omega arith) sunk.shuffled (omega arith) in
     let P : List (Entry g.row.W.Denot) → Type 0 = λ l. IsPermutation xs (x ∷ l) in
     record {

@@ -5,17 +5,17 @@ use Rattle.queue.specs.Order.{Over}
 use Rattle.queue.proofs.Orders.{over_ahead, over_chain, first_child}
 use Rattle.queue.proofs.sift_down.Goals as goal
 
-pub returns-then-not-ahead-at : goal.returns-then-not-ahead-at
-returns-then-not-ahead-at g c =
+pub returns-then-not-ahead_at : goal.returns-then-not-ahead_at
+returns-then-not-ahead_at g c =
     let G = g.W.Worth.group in
     let m = g.W.Worth.meaning in
     let l = c.loop-i in
-    let child = c.first-child-child.result in
+    let child = c.first_child-child.result in
     record {
       shuffled = l.invariant.0;
       heap = λ h. sink_rests (Over G m) l.s l.i
           (λ d k a b e. over_chain G g.met.W.Worth.laws m (get_or l.s l.i d) (get_or l.s child d) (get_or l.s k d)
-          (sym (c.if-not-ahead-at.ensures.value d)) (first_child G g.met.W.Worth.laws m l.s l.i child c.first-child-child.ensures.only c.first-child-child.ensures.value d k a b e)) (l.invariant.1 h);
+          (sym (c.if-not-ahead_at.ensures.value d)) (first_child G g.met.W.Worth.laws m l.s l.i child c.first_child-child.ensures.only c.first_child-child.ensures.value d k a b e)) (l.invariant.1 h);
     }
 
 pub loop-i-preserved : goal.loop-i-preserved
@@ -24,13 +24,13 @@ loop-i-preserved g c =
     let m = g.W.Worth.meaning in
     let l = c.loop-i in
     let i = l.i in
-    let child = c.first-child-child.result in
-    let at = c.first-child-child.ensures.child in
+    let child = c.first_child-child.result in
+    let at = c.first_child-child.ensures.child in
     let told = c.swap.ensures in (
       IsPermutation-trans _ _ _ l.invariant.0 told.permutation,
       λ h. sink_step (Over G m) l.s c.swap.new.self i child (omega arith) at.1 told.after told.len at.0 at.2
-          (λ d. over_ahead G g.met.W.Worth.laws m (get_or l.s child d) (get_or l.s i d) (sym (c.if-not-ahead-at.ensures.value d)))
-          (first_child G g.met.W.Worth.laws m l.s i child c.first-child-child.ensures.only c.first-child-child.ensures.value) (l.invariant.1 h),
+          (λ d. over_ahead G g.met.W.Worth.laws m (get_or l.s child d) (get_or l.s i d) (sym (c.if-not-ahead_at.ensures.value d)))
+          (first_child G g.met.W.Worth.laws m l.s i child c.first_child-child.ensures.only c.first_child-child.ensures.value) (l.invariant.1 h),
     )
 
 pub returns : goal.returns

@@ -6,13 +6,13 @@ use Rattle.queue.specs.Order.{Over}
 use Rattle.queue.proofs.Orders.{over_ahead, over_chain}
 use Rattle.queue.proofs.sift_up.Goals as goal
 
-pub returns-then-not-ahead-at : goal.returns-then-not-ahead-at
-returns-then-not-ahead-at g c =
+pub returns-then-not-ahead_at : goal.returns-then-not-ahead_at
+returns-then-not-ahead_at g c =
     let L = Over g.W.Worth.group g.W.Worth.meaning in
     let l = c.loop-i in
     record {
       shuffled = l.invariant.1;
-      heap = λ h. rise_rests L l.s l.i (λ d pos. sym (c.if-not-ahead-at.ensures.value d)) (l.invariant.2 h);
+      heap = λ h. rise_rests L l.s l.i (λ d pos. sym (c.if-not-ahead_at.ensures.value d)) (l.invariant.2 h);
     }
 
 pub loop-i-preserved : goal.loop-i-preserved
@@ -26,7 +26,7 @@ loop-i-preserved g c =
       omega arith,
       IsPermutation-trans _ _ _ l.invariant.1 told.permutation,
       λ h. rise_step (Over G m) l.s c.swap.new.self (parent i) i (omega arith) l.invariant.0 told.after told.len
-          (over_chain G laws m) (omega arith) refl (λ d. over_ahead G laws m (get_or l.s i d) (get_or l.s (parent i) d) (sym (c.if-not-ahead-at.ensures.value d))) (l.invariant.2 h),
+          (over_chain G laws m) (omega arith) refl (λ d. over_ahead G laws m (get_or l.s i d) (get_or l.s (parent i) d) (sym (c.if-not-ahead_at.ensures.value d))) (l.invariant.2 h),
     )
 
 pub returns : goal.returns

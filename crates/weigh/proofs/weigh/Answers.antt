@@ -11,10 +11,10 @@ use Rattle.weigh.specs.Trials.{WeighsTrial}
 use Rattle.weigh.specs.Weighing.{Memories}
 use Rattle.weigh.proofs.weigh.Goals as goal
 
-pub weigh-trial-requires : goal.weigh-trial-requires
-weigh-trial-requires g c =
+pub weigh_trial-requires : goal.weigh_trial-requires
+weigh_trial-requires g c =
     let T = c.args.table.now in
-    let T' = c.set-bid.new.self in
+    let T' = c.set_bid.new.self in
     let set = c.in-Some.ensures in
     let takes = sym set.value in
     let on = (set.place refl).0 in
@@ -29,7 +29,7 @@ returns-in-None g c =
     let barred = unfit_bid T.products (rounds T) c.args.row.now (min (length c.args.inner.now) (min (length c.args.heap.now) (min (length c.args.chain.now) (length c.args.after.now)))) (omega arith) takes in
     record {
       weighs = record {
-        refused = λ e h. (ap Err (c.reason-of.ensures ∙ same_some (sym barred ∙ h)), refl, refl);
+        refused = λ e h. (ap Err (c.reason_of.ensures ∙ same_some (sym barred ∙ h)), refl, refl);
         writes = λ h. none_some _ h barred;
         decides = λ h. none_some _ h barred;
       };
@@ -41,7 +41,7 @@ returns-in-Some g c =
     let L = g.met.W.Worth.laws in
     let m = g.W.Worth.meaning in
     let T = c.args.table.now in
-    let T' = c.set-bid.new.self in
+    let T' = c.set_bid.new.self in
     let R = rounds T in
     let row = c.args.row.now in
     let inner = c.args.inner.now in
@@ -58,12 +58,12 @@ returns-in-Some g c =
     let few : length (roll (offered R row)) ≤ 128 = omega (arith, ap (λ rs. length (roll rs)) is, table_roll T', T'.few_packages) in
     let new_is : eqb x c.packages.result ≡ eqb x (length (roll R)) = ap (eqb x) (c.packages.ensures.0 ∙ sym (table_roll T)) in
     let before : Memories _ = record { chain = c.args.chain.now; worths = c.args.after.now } in
-    let after : Memories _ = record { chain = c.weigh-trial.new.chain; worths = c.weigh-trial.new.after } in
-    let told = subst (λ rs. WeighsTrial G m rs x (eqb x c.packages.result) inner before after c.weigh-trial.result) is c.weigh-trial.ensures in
+    let after : Memories _ = record { chain = c.weigh_trial.new.chain; worths = c.weigh_trial.new.after } in
+    let told = subst (λ rs. WeighsTrial G m rs x (eqb x c.packages.result) inner before after c.weigh_trial.result) is c.weigh_trial.ensures in
     record {
       weighs = record {
         refused = λ e h. none_some _ barred h;
-        writes = λ _. writes G L m R row T.products T.few_products sale some free enrols x place few (eqb x c.packages.result) new_is inner before after (omega arith) c.weigh-trial.result told;
-        decides = λ _ known. decides G L m R row T.products T.few_products sale some free enrols x place few (eqb x c.packages.result) new_is inner before after (omega arith) c.weigh-trial.result told known;
+        writes = λ _. writes G L m R row T.products T.few_products sale some free enrols x place few (eqb x c.packages.result) new_is inner before after (omega arith) c.weigh_trial.result told;
+        decides = λ _ known. decides G L m R row T.products T.few_products sale some free enrols x place few (eqb x c.packages.result) new_is inner before after (omega arith) c.weigh_trial.result told known;
       };
     }

@@ -14,8 +14,8 @@ use Rattle.weigh.proofs.weigh_trial.Goals as goal
 fewer : (n k size : ℕ) → k ≤ n → n * size < 2 ^ 63 → k * size < 2 ^ 63
 fewer n k size h room = let l = mul-le k size n size h (omega arith) in omega arith
 
-pub worths-before-before-requires : goal.worths-before-before-requires
-worths-before-before-requires g c = (fewer (length c.args.inner.now) 128 _ c.requires.1.0 (search rules), (c.requires.0.0, (c.requires.0.1, c.requires.1.0)))
+pub worths_before-before-requires : goal.worths_before-before-requires
+worths_before-before-requires g c = (fewer (length c.args.inner.now) 128 _ c.requires.1.0 (search rules), (c.requires.0.0, (c.requires.0.1, c.requires.1.0)))
 
 pub descend-requires : goal.descend-requires
 descend-requires g c =
@@ -27,8 +27,8 @@ descend-requires g c =
     let enough : T.packages ≤ room c.new-queue.result = omega (arith, T.few_packages, c.requires.1.1.0) in
     (fewer (length c.args.inner.now) 128 _ c.requires.1.0 (search rules), (c.requires.0.0, (c.requires.0.1, (made_fit G m T.packages _ _ made enough, made_none G m _ _ made))))
 
-pub write-worths-requires : goal.write-worths-requires
-write-worths-requires g c = (fewer (length c.args.inner.now) 128 _ c.requires.1.0 (search rules), (omega arith, omega (arith, c.requires.1.1.1.1)))
+pub write_worths-requires : goal.write_worths-requires
+write_worths-requires g c = (fewer (length c.args.inner.now) 128 _ c.requires.1.0 (search rules), (omega arith, omega (arith, c.requires.1.1.1.1)))
 
 pub trace-steps-requires : goal.trace-steps-requires
 trace-steps-requires g c =
@@ -43,19 +43,19 @@ returns-in-Quiet g c =
     let T = c.args.trial.now in
     let count = c.packages.ensures.0 in
     let roll_long = table_roll T in
-    let d = worths G m c.worths-before-before.result in
+    let d = worths G m c.worths_before-before.result in
     let st = state G m c.descend.new.dist c.descend.new.q in (
       refl,
       omega (arith, roll_long, c.in-Quiet.ensures.within),
       refl,
-      c.write-worths.ensures.long,
-      subst (λ n. drop n c.write-worths.new.after ≡ drop n c.args.after.now) (count ∙ sym roll_long) c.write-worths.ensures.rest,
+      c.write_worths.ensures.long,
+      subst (λ n. drop n c.write_worths.new.after ≡ drop n c.args.after.now) (count ∙ sym roll_long) c.write_worths.ensures.rest,
       (
         d,
         st,
-        record { same = c.worths-before-before.ensures.same; entry = c.worths-before-before.ensures.comes-in },
+        record { same = c.worths_before-before.ensures.same; entry = c.worths_before-before.ensures.comes_in },
         record {
-          dists = λ y l. c.write-worths.ensures.written y (omega arith);
+          dists = λ y l. c.write_worths.ensures.written y (omega arith);
           held = λ k. subst (λ n. IsHeld G (graph_of G (rounds T)) (Earlier (rounds T)) d c.args.place (n - 1) st c.in-Quiet.moved) (sym (table_rounds T)) (c.in-Quiet.ensures.searched k);
         },
       ),
@@ -68,7 +68,7 @@ returns-in-Around g c =
     let T = c.args.trial.now in
     let last = c.in-Around.last in
     let round = c.in-Around.round in
-    let d = worths G m c.worths-before-before.result in
+    let d = worths G m c.worths_before-before.result in
     let st = state G m c.descend.new.dist c.descend.new.q in
     let ends : Known G (graph_of G (rounds T)) (Earlier (rounds T)) d → IsAround G (graph_of G (rounds T)) (Earlier (rounds T)) d c.args.place (length (rounds T) - 1) st last round = λ k. subst (λ n. IsAround G (graph_of G (rounds T)) (Earlier (rounds T)) d c.args.place (n - 1) st last round) (sym (table_rounds T)) (c.in-Around.ensures.searched k) in (
       c.trace-steps.ensures.few,
@@ -78,7 +78,7 @@ returns-in-Around g c =
       (
         d,
         st,
-        record { same = c.worths-before-before.ensures.same; entry = c.worths-before-before.ensures.comes-in },
+        record { same = c.worths_before-before.ensures.same; entry = c.worths_before-before.ensures.comes_in },
         record {
           around = λ k. (last, round, ends k);
           traced = λ k.

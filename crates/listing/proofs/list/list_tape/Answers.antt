@@ -18,7 +18,7 @@ pub returns-in-Err : goal.returns-in-Err
 returns-in-Err c =
     let old = vec_items c.args.text.now in
     let error = c.in-Err.error in
-    appended (Listed c.args.tape.now) old [] (line (error_text error)) old (vec_items c.push-error.new.text) c.push-error.result (sym (append-nil old)) c.push-error.ensures
+    appended (Listed c.args.tape.now) old [] (line (error_text error)) old (vec_items c.push_error.new.text) c.push_error.result (sym (append-nil old)) c.push_error.ensures
     (refused c.args.tape.now error c.in-Err.ensures.reads)
 
 pub returns : goal.returns
@@ -28,5 +28,5 @@ returns c =
     let read = c.in-Ok.ensures.reads in
     let heading = line (heading_text front.0.book front.0.products front.0.kind) in
     appended_behind (RecordsListed front.0.products front.1.now) (Listed t) (vec_items c.args.text.now) heading
-    (vec_items c.push-heading.new.text) (vec_items c.push-records.new.text) c.push-records.result c.in-ok-push-heading.ensures
-    (λ more l. subst (Listed t) (append_assoc heading (entries_text l.entries) (break_text l.end) ∙ ap (λ s. heading ++ s) (sym l.said)) (listed read.0 read.1 l.held)) c.push-records.ensures
+    (vec_items c.push_heading.new.text) (vec_items c.push_records.new.text) c.push_records.result c.in_ok-push_heading.ensures
+    (λ more l. subst (Listed t) (append_assoc heading (entries_text l.entries) (break_text l.end) ∙ ap (λ s. heading ++ s) (sym l.said)) (listed read.0 read.1 l.held)) c.push_records.ensures

@@ -8,5 +8,5 @@ pub returns : goal.returns
 returns c =
     let old = vec_items c.args.text.now in
     let text = line (entry_text (entry_of c.args.header.now.products c.args.entry.now)) in
-    let front = line_front (replicate 256 0) text c.write-entry.new.line c.write-entry.result c.unwrap-end.result c.unwrap-end.ensures c.write-entry.ensures in
-    c.extend-from-slice.ensures.items ∙ ap (λ t. cond (is_ok c.extend-from-slice.result) (old ++ t) old) front
+    let front = line_front (replicate 256 0) text c.write_entry.new.line c.write_entry.result c.unwrap-end.result c.unwrap-end.ensures c.write_entry.ensures in
+    c.extend_from_slice.ensures.items ∙ ap (λ t. cond (is_ok c.extend_from_slice.result) (old ++ t) old) front

@@ -7,5 +7,5 @@ pub returns : goal.returns
 returns c =
     let old = vec_items c.args.text.now in
     let text = line (error_text c.args.error) in
-    let front = line_front (replicate 256 0) text c.write-error.new.line c.write-error.result c.unwrap-end.result c.unwrap-end.ensures c.write-error.ensures in
-    c.extend-from-slice.ensures.items ∙ ap (λ t. cond (is_ok c.extend-from-slice.result) (old ++ t) old) front
+    let front = line_front (replicate 256 0) text c.write_error.new.line c.write_error.result c.unwrap-end.result c.unwrap-end.ensures c.write_error.ensures in
+    c.extend_from_slice.ensures.items ∙ ap (λ t. cond (is_ok c.extend_from_slice.result) (old ++ t) old) front

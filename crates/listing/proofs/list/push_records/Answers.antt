@@ -11,10 +11,10 @@ use Rattle.listing.proofs.list.push_records.Goals as goal
 pub loop-front-init : goal.loop-front-init
 loop-front-init c = listing_none c.args.header.now.products c.args.records.now (vec_items c.args.text.now)
 
-pub returns-in-err-push-entry : goal.returns-in-err-push-entry
-returns-in-err-push-entry c =
+pub returns-in_err-push_entry : goal.returns-in_err-push_entry
+returns-in_err-push_entry c =
     appended_refused (RecordsListed c.args.header.now.products c.args.records.now) (vec_items c.args.text.now) (entries_text c.loop-front.invariant.entries)
-    (vec_items c.push-entry.new.text) c.from-residual.result c.from-residual.ensures.0 (c.in-err-push-entry.ensures ∙ c.loop-front.invariant.said)
+    (vec_items c.push_entry.new.text) c.from_residual.result c.from_residual.ensures.0 (c.in_err-push_entry.ensures ∙ c.loop-front.invariant.said)
 
 pub loop-front-smaller : goal.loop-front-smaller
 loop-front-smaller c =
@@ -27,16 +27,16 @@ loop-front-preserved c =
     let read = subst (λ o. Reads c.args.header.now.products c.loop-front.rest.now (Ok o)) c.in-Some.is c.in-Ok.ensures.reads in
     let e = read.1.0 in
     let said = ap (λ d. vec_items c.loop-front.text ++ line (entry_text d)) (ap (entry_of n) read.1.2 ∙ entry_record n e read.1.1) in
-    listing_more n c.args.records.now c.loop-front.rest.now c.in-Some.more.now (vec_items c.args.text.now) (vec_items c.loop-front.text) (vec_items c.push-entry.new.text)
-    e read.1.1 read.1.3 (c.in-ok-push-entry.ensures ∙ said) c.loop-front.invariant
+    listing_more n c.args.records.now c.loop-front.rest.now c.in-Some.more.now (vec_items c.args.text.now) (vec_items c.loop-front.text) (vec_items c.push_entry.new.text)
+    e read.1.1 read.1.3 (c.in_ok-push_entry.ensures ∙ said) c.loop-front.invariant
 
-pub returns-in-default : goal.returns-in-default
-returns-in-default c =
+pub returns-in_default : goal.returns-in_default
+returns-in_default c =
     let n = c.args.header.now.products in
     let old = vec_items c.args.text.now in
     let rest = c.loop-front.rest.now in
     let l = c.loop-front.invariant in
-    let read = subst (λ o. Reads n rest (Ok o)) c.in-default.is c.in-Ok.ensures.reads in
+    let read = subst (λ o. Reads n rest (Ok o)) c.in_default.is c.in-Ok.ensures.reads in
     let end = subst (λ t. Records n t [] None) (sym read.1) ends in (
       entries_text l.entries ++ [],
       listing_whole n c.args.records.now rest old (vec_items c.loop-front.text) None l end,
@@ -56,6 +56,6 @@ returns-in-Err c =
     let l = c.loop-front.invariant in
     let error = c.in-Err.error in
     let end = breaks (broken n c.loop-front.rest.now error c.requires c.in-Err.ensures.reads) in
-    appended (RecordsListed n c.args.records.now) (vec_items c.args.text.now) (entries_text l.entries) (line (error_text error)) (vec_items c.loop-front.text) (vec_items c.push-error.new.text)
-    c.push-error.result l.said c.push-error.ensures
+    appended (RecordsListed n c.args.records.now) (vec_items c.args.text.now) (entries_text l.entries) (line (error_text error)) (vec_items c.loop-front.text) (vec_items c.push_error.new.text)
+    c.push_error.result l.said c.push_error.ensures
     (listing_whole n c.args.records.now c.loop-front.rest.now (vec_items c.args.text.now) (vec_items c.loop-front.text) (Some error) l end)

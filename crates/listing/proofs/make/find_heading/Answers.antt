@@ -15,9 +15,9 @@ returns-in-Err c =
 pub loop-first-preserved : goal.loop-first-preserved
 loop-first-preserved c =
     let first = c.in-Some.first.now in
-    let none = subst (λ o. ReadsHeading {E = LineError} (said first) (Ok o)) c.in-default-heading.is c.in-Ok.ensures.reads in
+    let none = subst (λ o. ReadsHeading {E = LineError} (said first) (Ok o)) c.in_default-heading.is c.in-Ok.ensures.reads in
     passing_more c.args.text.now c.loop-first.rest.now first c.in-Some.more.now c.loop-first.line c.in-Some.ensures.0 c.in-Some.ensures.1 none c.loop-first.invariant
 
 pub returns : goal.returns
 returns c =
-    no_heading c.args.text.now c.loop-first.rest.now c.loop-first.line (λ b p k es d. subst (λ ls. Describe ls b p k es) c.in-default.ensures d) c.loop-first.invariant
+    no_heading c.args.text.now c.loop-first.rest.now c.loop-first.line (λ b p k es d. subst (λ ls. Describe ls b p k es) c.in_default.ensures d) c.loop-first.invariant

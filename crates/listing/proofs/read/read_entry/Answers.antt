@@ -5,9 +5,9 @@ use Rattle.listing.specs.Scanning.{ReadsEntry}
 use Rattle.listing.specs.declared.error.LineError.{LineError}
 use Rattle.listing.proofs.read.read_entry.Goals as goal
 
-pub returns-in-default : goal.returns-in-default
-returns-in-default c =
-    let none = ap words (sym c.before_comment.ensures) ∙ c.in-default.ensures in
+pub returns-in_default : goal.returns-in_default
+returns-in_default c =
+    let none = ap words (sym c.before_comment.ensures) ∙ c.in_default.ensures in
     record { reads = none; gives_back = entry_gives_back c.args.header.now.products c.args.line.now (Ok None) none }
 
 pub returns-in-Ok : goal.returns-in-Ok

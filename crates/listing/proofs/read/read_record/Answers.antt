@@ -12,28 +12,28 @@ letter_word word b long first = sym (text_from_reads word (b ∷ []) long (first
 
 pub returns-in-79 : goal.returns-in-79
 returns-in-79 c =
-    subst (λ w. ReadsRecord c.args.n (w ∷ words c.args.text.now) c.read-opening.result) (letter_word c.args.word.now 79 (search rules) (search rules)) c.read-opening.ensures
+    subst (λ w. ReadsRecord c.args.n (w ∷ words c.args.text.now) c.read_opening.result) (letter_word c.args.word.now 79 (search rules) (search rules)) c.read_opening.ensures
 
 pub returns-in-84 : goal.returns-in-84
 returns-in-84 c =
-    subst (λ w. ReadsRecord c.args.n (w ∷ words c.args.text.now) c.read-offer.result) (letter_word c.args.word.now 84 (search rules) (search rules)) c.read-offer.ensures
+    subst (λ w. ReadsRecord c.args.n (w ∷ words c.args.text.now) c.read_offer.result) (letter_word c.args.word.now 84 (search rules) (search rules)) c.read_offer.ensures
 
 pub returns-in-67 : goal.returns-in-67
 returns-in-67 c =
-    subst (λ w. ReadsRecord c.args.n (w ∷ words c.args.text.now) c.read-bare.result) (letter_word c.args.word.now 67 (search rules) (search rules))
-    (bare_read c.args.n (words c.args.text.now) confirmation c.read-bare.result (λ row. refl) refl c.requires tt c.read-bare.ensures)
+    subst (λ w. ReadsRecord c.args.n (w ∷ words c.args.text.now) c.read_bare.result) (letter_word c.args.word.now 67 (search rules) (search rules))
+    (bare_read c.args.n (words c.args.text.now) confirmation c.read_bare.result (λ row. refl) refl c.requires tt c.read_bare.ensures)
 
 pub returns-in-87 : goal.returns-in-87
 returns-in-87 c =
-    subst (λ w. ReadsRecord c.args.n (w ∷ words c.args.text.now) c.read-bare-in-87.result) (letter_word c.args.word.now 87 (search rules) (search rules))
-    (bare_read c.args.n (words c.args.text.now) withdrawal c.read-bare-in-87.result (λ row. refl) refl c.requires tt c.read-bare-in-87.ensures)
+    subst (λ w. ReadsRecord c.args.n (w ∷ words c.args.text.now) c.read_bare-in-87.result) (letter_word c.args.word.now 87 (search rules) (search rules))
+    (bare_read c.args.n (words c.args.text.now) withdrawal c.read_bare-in-87.result (λ row. refl) refl c.requires tt c.read_bare-in-87.ensures)
 
 pub returns-in-83 : goal.returns-in-83
 returns-in-83 c =
-    subst (λ w. ReadsRecord c.args.n (w ∷ words c.args.text.now) c.read-bare-in-83.result) (letter_word c.args.word.now 83 (search rules) (search rules))
-    (bare_read c.args.n (words c.args.text.now) closing c.read-bare-in-83.result (λ row. refl) refl c.requires tt c.read-bare-in-83.ensures)
+    subst (λ w. ReadsRecord c.args.n (w ∷ words c.args.text.now) c.read_bare-in-83.result) (letter_word c.args.word.now 83 (search rules) (search rules))
+    (bare_read c.args.n (words c.args.text.now) closing c.read_bare-in-83.result (λ row. refl) refl c.requires tt c.read_bare-in-83.ensures)
 
 pub returns-in-86 : goal.returns-in-86
 returns-in-86 c =
-    subst (λ w. ReadsRecord c.args.n (w ∷ words c.args.text.now) c.read-bare-in-86.result) (letter_word c.args.word.now 86 (search rules) (search rules))
-    (bare_read c.args.n (words c.args.text.now) reading c.read-bare-in-86.result (λ row. refl) refl c.requires tt c.read-bare-in-86.ensures)
+    subst (λ w. ReadsRecord c.args.n (w ∷ words c.args.text.now) c.read_bare-in-86.result) (letter_word c.args.word.now 86 (search rules) (search rules))
+    (bare_read c.args.n (words c.args.text.now) reading c.read_bare-in-86.result (λ row. refl) refl c.requires tt c.read_bare-in-86.ensures)

@@ -6,18 +6,18 @@ use Rattle.std.proofs.lemmas.Slice.{between_to_end}
 use Rattle.std.proofs.lemmas.Bool.{eqb-false, eqb-true}
 use Rattle.listing.proofs.words.next_word.Goals as goal
 
-pub returns-then-is-empty : goal.returns-then-is-empty
-returns-then-is-empty c =
-    let rest = c.skip-blanks-rest.result.now in
-    sym c.skip-blanks-rest.ensures.same ∙ ap words (nil_from_length rest (eqb-true (length rest) 0 (sym c.if-is-empty.ensures)))
+pub returns-then-is_empty : goal.returns-then-is_empty
+returns-then-is_empty c =
+    let rest = c.skip_blanks-rest.result.now in
+    sym c.skip_blanks-rest.ensures.same ∙ ap words (nil_from_length rest (eqb-true (length rest) 0 (sym c.if-is_empty.ensures)))
 
 pub returns : goal.returns
 returns c =
-    let rest = c.skip-blanks-rest.result.now in
-    let end = c.word-end-end.result in
-    let none = eqb-false (length rest) 0 (sym c.if-is-empty.ensures) in
+    let rest = c.skip_blanks-rest.result.now in
+    let end = c.word_end-end.result in
+    let none = eqb-false (length rest) 0 (sym c.if-is_empty.ensures) in
     let many : 0 < length rest = omega arith in
-    let some = c.word-end-end.ensures.some many c.skip-blanks-rest.ensures.front in
-    let long = length-take-le end rest c.word-end-end.ensures.bound in
-    sym c.skip-blanks-rest.ensures.same ∙ c.word-end-end.ensures.value ∙ ended_some (take end rest) (words (drop end rest)) (omega arith)
+    let some = c.word_end-end.ensures.some many c.skip_blanks-rest.ensures.front in
+    let long = length-take-le end rest c.word_end-end.ensures.bound in
+    sym c.skip_blanks-rest.ensures.same ∙ c.word_end-end.ensures.value ∙ ended_some (take end rest) (words (drop end rest)) (omega arith)
     ∙ ap (λ k. take k rest ∷ words (drop end rest)) (omega arith) ∙ ap (λ l. take (end - 0) rest ∷ words l) (sym (between_to_end rest end (length rest) (omega arith)))

@@ -30,6 +30,6 @@ pub returns : goal.returns
 returns c =
     let word = c.args.word.now in
     let i = c.loop-i.i in
-    let none = eqb-false (length word) 0 (sym c.if-is-empty.ensures) in
+    let none = eqb-false (length word) 0 (sym c.if-is_empty.ensures) in
     let digits = subst (All (λ d. (48 ≤ d) × (d ≤ 57))) (take_all i word (omega arith)) c.loop-i.invariant.0 in
     ((omega arith, digits), c.loop-i.invariant.1 ∙ ap (value_from c.loop-i.n) (drop_all i word (omega arith)), c.loop-i.invariant.2)

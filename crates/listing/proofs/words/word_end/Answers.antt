@@ -11,11 +11,11 @@ behind_first text i here first = elim (cases_eq i 0) [
   | inr e ↦ omega arith
 ]
 
-pub returns-then-is-blank : goal.returns-then-is-blank
-returns-then-is-blank c =
+pub returns-then-is_blank : goal.returns-then-is_blank
+returns-then-is_blank c =
     let text = c.args.text.now in
     let i = c.loop-i.i in
-    let here = sym c.if-is-blank.ensures in
+    let here = sym c.if-is_blank.ensures in
     record {
       bound = omega arith;
       some = λ many first. behind_first text i here first;
@@ -23,7 +23,7 @@ returns-then-is-blank c =
     }
 
 pub loop-i-preserved : goal.loop-i-preserved
-loop-i-preserved c = c.loop-i.invariant ∙ word_goes c.args.text.now c.loop-i.i (omega arith) (sym c.if-is-blank.ensures)
+loop-i-preserved c = c.loop-i.invariant ∙ word_goes c.args.text.now c.loop-i.i (omega arith) (sym c.if-is_blank.ensures)
 
 pub returns : goal.returns
 returns c =

@@ -40,7 +40,7 @@ returns-then-full g c =
     let m = g.W.Worth.meaning in
     let q = c.args.self.now in
     let e : Entry g.row.W.Denot = record { «package» = c.args.«package»; key = c.args.key } in
-    let all : count q ≡ room q = eqb-true (count q) (room q) (sym c.is-full-full.ensures.value ∙ c.if-full.true) in
+    let all : count q ≡ room q = eqb-true (count q) (room q) (sym c.is_full-full.ensures.value ∙ c.if-full.true) in
     let P : ℕ → Type 0 = λ n. Absent (λ (x : Entry g.row.W.Denot). x.«package») (memory q) n e.«package» in
     let out = subst P c.len-n.ensures.value c.in-None.ensures in
     record { done = puts.full G m q e out all }
@@ -57,7 +57,7 @@ returns-else-full g c =
     let out = subst P is c.in-None.ensures in
     let k = n + 1 - 0 in
     let one : k ≡ count q + 1 = omega (arith, is) in
-    let free = eqb-false (count q) (room q) (sym c.is-full-full.ensures.value ∙ c.if-full.false) in
+    let free = eqb-false (count q) (room q) (sym c.is_full-full.ensures.value ∙ c.if-full.false) in
     let in' : count q < room q = omega (arith, is, c.len-n.ensures.within) in
     let len : n + 1 ≡ count q + 1 = omega (arith, is) in
     let told = c.append.ensures in

@@ -4,8 +4,8 @@ use Rattle.std.proofs.lemmas.List.{length-take}
 use Rattle.chains.proofs.Costs.{cost_end, cost_next}
 use Rattle.tables.proofs.cost.cost_of.Goals as goal
 
-pub overflow-add-sum : goal.overflow-add-sum
-overflow-add-sum c =
+pub overflow_add-sum : goal.overflow_add-sum
+overflow_add-sum c =
     let few = mul-le (get_or c.args.quantities.now c.loop-i.i 0) (get_or c.args.prices.now c.loop-i.i 0) 255 (2 ^ 32) (omega arith) (omega arith) in
     omega arith
 

@@ -8,8 +8,8 @@ returns g c =
     let G = g.W.Worth.group in
     let m = g.W.Worth.meaning in
     let L = g.met.W.Worth.laws in
-    let d = c.cost-more-more.result in
-    let few = c.cost-more-more.ensures.bound in
+    let d = c.cost_more-more.result in
+    let few = c.cost_more-more.ensures.bound in
     let is : to_z w64 (of_z w64 d) ≡ d = search rules in
     let more : m c.amount.result ≡ G.amount d = c.amount.ensures.exact (rw is (omega arith)) ∙ ap G.amount is in
     let notch : m c.notch.result ≡ G.notch = c.notch.ensures.value in
@@ -19,6 +19,6 @@ returns g c =
     let size = L.size_add (m c.amount.result) (G.neg (m c.notch.result)) in
     let neg_size = L.size_neg (m c.notch.result) in
     record {
-      value = less ∙ ap (λ u. G.add (m c.amount.result) (G.neg u)) notch ∙ ap (λ u. G.add u (G.neg G.notch)) (more ∙ ap G.amount c.cost-more-more.ensures.value);
+      value = less ∙ ap (λ u. G.add (m c.amount.result) (G.neg u)) notch ∙ ap (λ u. G.add u (G.neg G.notch)) (more ∙ ap G.amount c.cost_more-more.ensures.value);
       bound = rw less (omega arith);
     }

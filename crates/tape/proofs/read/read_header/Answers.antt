@@ -12,7 +12,7 @@ returns c =
     let book = c.number16-2.result in
     let products = get_or t 7 0 in
     let kind = c.in-Some.kind in
-    let front = header_front t book products kind (λ i. let byte = c.type-inv.tape i in search rules) (search rules) (search rules) (search rules) (search rules) (search rules) (search rules) (search rules) (search rules) in
+    let front = header_front t book products kind (λ i. let byte = c.type_inv.tape i in search rules) (search rules) (search rules) (search rules) (search rules) (search rules) (search rules) (search rules) (search rules) in
     let headed : Headed t book products kind _ =
     record { number = search rules; fit = search rules; front = front ∙ ap (λ r. header_bytes book products kind ++ r) (sym rest) } in
     record {

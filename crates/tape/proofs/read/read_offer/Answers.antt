@@ -8,8 +8,8 @@ use Rattle.tape.proofs.read.read_offer.Goals as goal
 one_byte_each : (row : List ℕ) → length row ≡ 1 * length row
 one_byte_each row = omega arith
 
-pub returns-in-default : goal.returns-in-default
-returns-in-default c =
+pub returns-in_default : goal.returns-in_default
+returns-in_default c =
     let long = row_then 8 c.loop-k.k (λ row. row) c.args.tape.now c.loop-k.quantities c.loop-k.rest.now 1 one_byte_each c.loop-k.invariant in
     search rules
 

@@ -5,8 +5,8 @@ use Rattle.tape.specs.Format.{be32, price_bytes, opening}
 use Rattle.tape.specs.declared.record.Record.TheVariants.{Open}
 use Rattle.tape.proofs.read.read_opening.Goals as goal
 
-pub returns-in-default : goal.returns-in-default
-returns-in-default c =
+pub returns-in_default : goal.returns-in_default
+returns-in_default c =
     let long = row_then 32 c.loop-i.i price_bytes c.args.tape.now c.loop-i.prices c.loop-i.rest.now 4 length_price_bytes c.loop-i.invariant in
     search rules
 

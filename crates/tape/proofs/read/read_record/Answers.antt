@@ -10,11 +10,11 @@ use Rattle.tape.proofs.read.read_record.Goals as goal
 use Rattle.tape.proofs.read.read_record.Goals.{in-79, in-84, in-67, in-87, in-83, in-86}
 
 -- the tape is at its end
-ends_front : (c : goal.In-default) → Reads c.args.header.now.products c.args.tape.now (Ok None)
+ends_front : (c : goal.In_default) → Reads c.args.header.now.products c.args.tape.now (Ok None)
 ends_front c = ((omega arith, omega arith), none_left c.args.tape.now (search rules))
 
-pub returns-in-default : goal.returns-in-default
-returns-in-default c = record { reads = ends_front c; same_bytes = reads_same _ c.args.tape.now (Ok None) (ends_front c); gives_back = reads_back _ c.args.tape.now (Ok None) (ends_front c) }
+pub returns-in_default : goal.returns-in_default
+returns-in_default c = record { reads = ends_front c; same_bytes = reads_same _ c.args.tape.now (Ok None) (ends_front c); gives_back = reads_back _ c.args.tape.now (Ok None) (ends_front c) }
 
 -- what stands in front
 reads_front : (c : goal.In-Some) → Reads c.args.header.now.products c.args.tape.now (Ok (Some c.in-Some.front))
@@ -28,8 +28,8 @@ reads_front c =
     let lettered : (b : ℕ) → get_or t 0 0 ≡ b → Behind n b more front.0 front.1.now → Reads n t (Ok (Some front)) =
     λ b e h. whole n b t more front fit (split ∙ ap (λ x. x ∷ more) e) h in
     elim c.match-letter.branch [
-      | in-79 w ↦ lettered 79 (search rules) (MatchOption-at_some (length more < 4 * n) (λ p. Behind n 79 more p.0 p.1.now) front (sym w.found-is ∙ c.in-Some.is) w.read-opening-found.ensures)
-      | in-84 w ↦ lettered 84 (search rules) (MatchOption-at_some (length more < n) (λ p. Behind n 84 more p.0 p.1.now) front (sym w.found-is ∙ c.in-Some.is) w.read-offer-found.ensures)
+      | in-79 w ↦ lettered 79 (search rules) (MatchOption-at_some (length more < 4 * n) (λ p. Behind n 79 more p.0 p.1.now) front (sym w.found-is ∙ c.in-Some.is) w.read_opening-found.ensures)
+      | in-84 w ↦ lettered 84 (search rules) (MatchOption-at_some (length more < n) (λ p. Behind n 84 more p.0 p.1.now) front (sym w.found-is ∙ c.in-Some.is) w.read_offer-found.ensures)
       | in-67 w ↦ lettered 67 (search rules) (bare_found n confirmation more c.match-letter.found _ front tt refl refl w.found-is c.in-Some.is)
       | in-87 w ↦ lettered 87 (search rules) (bare_found n withdrawal more c.match-letter.found _ front tt refl refl w.found-is c.in-Some.is)
       | in-83 w ↦ lettered 83 (search rules) (bare_found n closing more c.match-letter.found _ front tt refl refl w.found-is c.in-Some.is)
@@ -50,8 +50,8 @@ cut_front c =
     let cut : (b k : ℕ) → get_or t 0 0 ≡ b → row_length n b ≡ Some k → length more < k → Reads n t (Err CutOff) =
     λ b k e long short. (fit, (b, more, k, split ∙ ap (λ x. x ∷ more) e, long, short)) in
     elim c.match-letter.branch [
-      | in-79 w ↦ cut 79 (4 * n) (search rules) refl (MatchOption-at_none (length more < 4 * n) (λ p. Behind n 79 more p.0 p.1.now) (sym w.found-is ∙ c.in-None.is) w.read-opening-found.ensures)
-      | in-84 w ↦ cut 84 n (search rules) refl (MatchOption-at_none (length more < n) (λ p. Behind n 84 more p.0 p.1.now) (sym w.found-is ∙ c.in-None.is) w.read-offer-found.ensures)
+      | in-79 w ↦ cut 79 (4 * n) (search rules) refl (MatchOption-at_none (length more < 4 * n) (λ p. Behind n 79 more p.0 p.1.now) (sym w.found-is ∙ c.in-None.is) w.read_opening-found.ensures)
+      | in-84 w ↦ cut 84 n (search rules) refl (MatchOption-at_none (length more < n) (λ p. Behind n 84 more p.0 p.1.now) (sym w.found-is ∙ c.in-None.is) w.read_offer-found.ensures)
       | in-67 w ↦ absurd (found_none _ _ w.found-is c.in-None.is)
       | in-87 w ↦ absurd (found_none _ _ w.found-is c.in-None.is)
       | in-83 w ↦ absurd (found_none _ _ w.found-is c.in-None.is)

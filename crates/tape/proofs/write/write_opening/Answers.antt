@@ -20,9 +20,9 @@ loop-i-preserved c =
     let x = get_or ps i 0 in
     let before = price_bytes (take i ps) in
     let long : at + length before ≡ at + 4 * i = ap (λ k. at + k) (length_price_bytes (take i ps) ∙ ap (λ k. 4 * k) (length-take-le i ps (omega arith))) in
-    c.put-bytes.ensures
-    ∙ ap (λ b. laid b (at + 4 * i) c.to-be-bytes.result) c.loop-i.invariant
-    ∙ ap (laid (laid buf at before) (at + 4 * i)) c.to-be-bytes.ensures
+    c.put_bytes.ensures
+    ∙ ap (λ b. laid b (at + 4 * i) c.to_be_bytes.result) c.loop-i.invariant
+    ∙ ap (laid (laid buf at before) (at + 4 * i)) c.to_be_bytes.ensures
     ∙ ap (λ k. laid (laid buf at before) k (be32 x)) (sym long)
     ∙ sym (laid_append buf at before (be32 x))
     ∙ ap (laid buf at) (sym (price_bytes_more x (take i ps)) ∙ ap price_bytes (sym (take_more ps i 0 (omega arith))))

@@ -9,11 +9,11 @@ use Rattle.weigh.proofs.Entries.{Upto, entry_all, entry_bid, entry_over, entry_s
 use Rattle.weigh.proofs.Read.{worths_read}
 use Rattle.weigh.proofs.entry.entry.Goals as goal
 
-pub cost-at-requires : goal.cost-at-requires
-cost-at-requires g c = let bid = c.in-Some.ensures in (omega arith, omega (arith, bid.0, table_roll c.args.table.now))
+pub cost_at-requires : goal.cost_at-requires
+cost_at-requires g c = let bid = c.in-Some.ensures in (omega arith, omega (arith, bid.0, table_roll c.args.table.now))
 
-pub offset-bounds-inner-a : goal.offset-bounds-inner-a
-offset-bounds-inner-a g c = let bid = c.in-Some.ensures in omega (arith, bid.0, table_roll c.args.table.now, c.args.table.now.few_packages, c.requires.1.1)
+pub offset_bounds-inner-a : goal.offset_bounds-inner-a
+offset_bounds-inner-a g c = let bid = c.in-Some.ensures in omega (arith, bid.0, table_roll c.args.table.now, c.args.table.now.few_packages, c.requires.1.1)
 
 pub bounds-inner-a : goal.bounds-inner-a
 bounds-inner-a g c = let bid = c.in-Some.ensures in omega (arith, bid.0, table_roll c.args.table.now, c.args.table.now.few_packages, c.requires.1.1)
@@ -37,7 +37,7 @@ loop-s-preserved g c small =
     let inner = c.args.inner.now in
     let d = worths G m inner in
     let early : s + 1 < length R = omega (arith, table_rounds T) in
-    elim c.match-bid-in.branch [
+    elim c.match-bid_in.branch [
       | goal.in-Some w ↦
           let a = w.in-Some.a in
           let v = w.index-inner-a.result in
@@ -45,11 +45,11 @@ loop-s-preserved g c small =
           let on : a < length inner = omega (arith, bid.0, table_roll T, T.few_packages, c.requires.1.1) in
           let read : d a ≡ m v = worths_read G m inner a v on w.index-inner-a.is in
           let near : G.size (m v) ≤ 2 ^ 45 * 128 = rw (← read) (small s a (bid_earlier R s a early bid)) in
-          let far = w.step-between-far.ensures.value (package_at R a) (package_at R x) _ w.cost-at.ensures.value w.cost-at-in-Some.ensures.value in
-          let few = w.step-between-far.ensures.bound in
-          let is : m w.sum.result ≡ G.add (d a) ((graph_of G R).step a x s) = w.sum.ensures.exact (omega arith) ∙ ap (λ u. G.add u (m w.step-between-far.result)) (sym read) ∙ ap (G.add (d a)) far in
+          let far = w.step_between-far.ensures.value (package_at R a) (package_at R x) _ w.cost_at.ensures.value w.cost_at-in-Some.ensures.value in
+          let few = w.step_between-far.ensures.bound in
+          let is : m w.sum.result ≡ G.add (d a) ((graph_of G R).step a x s) = w.sum.ensures.exact (omega arith) ∙ ap (λ u. G.add u (m w.step_between-far.result)) (sym read) ∙ ap (G.add (d a)) far in
           entry_bid G L R d x s a early bid m c.loop-s.least w.sum.result _ is (w.least-is ∙ w.smaller-least.ensures.value) (c.loop-s.invariant small)
-      | goal.in-default w ↦ subst (λ v. Entry G (graph_of G R) (Upto R (s + 1)) d x (m v)) (sym w.least-is) (entry_over G L R d x s _ w.in-default.ensures (c.loop-s.invariant small))
+      | goal.in_default w ↦ subst (λ v. Entry G (graph_of G R) (Upto R (s + 1)) d x (m v)) (sym w.least-is) (entry_over G L R d x s _ w.in_default.ensures (c.loop-s.invariant small))
     ]
 
 pub returns : goal.returns

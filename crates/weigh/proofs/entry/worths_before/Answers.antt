@@ -13,8 +13,8 @@ returns-then-new g c =
     let R = rounds c.args.table.now in
     let x = c.args.x in
     let few = c.args.table.now.few_packages in
-    let first = c.first-worths-before.result in
+    let first = c.first_worths-before.result in
     record {
-      same = λ y l other. worths_other G m first x y _ (other c.if-new.true) ∙ c.first-worths-before.ensures y l;
-      comes-in = λ is small. subst (λ v. Entry G (graph_of G R) (Earlier R) (worths G m c.args.inner.now) x v) (sym (worths_same G m first x _ (omega arith))) (c.entry.ensures small);
+      same = λ y l other. worths_other G m first x y _ (other c.if-new.true) ∙ c.first_worths-before.ensures y l;
+      comes_in = λ is small. subst (λ v. Entry G (graph_of G R) (Earlier R) (worths G m c.args.inner.now) x v) (sym (worths_same G m first x _ (omega arith))) (c.entry.ensures small);
     }

@@ -47,14 +47,14 @@ bounds-q-y g c =
     let left = c.in-Some.ensures.fit T.packages c.loop-turn.invariant.0 in
     omega (arith, left.1, T.few_packages)
 
-pub relax-all-requires : goal.relax-all-requires
-relax-all-requires g c =
+pub relax_all-requires : goal.relax_all-requires
+relax_all-requires g c =
     let T = c.args.table.now in
     let on = (c.in-Some.ensures.fit T.packages c.loop-turn.invariant.0).1 in
     (search rules, (on, c.requires.1.0))
 
-pub offset-bounds-q-y : goal.offset-bounds-q-y
-offset-bounds-q-y g c =
+pub offset_bounds-q-y : goal.offset_bounds-q-y
+offset_bounds-q-y g c =
     let T = c.args.table.now in
     let left = c.in-Some.ensures.fit T.packages c.loop-turn.invariant.0 in
     omega (arith, left.1, T.few_packages)
@@ -77,12 +77,12 @@ returns-in-None g c =
       within = omega arith;
       searched = λ k.
           let i = c.loop-turn.invariant.1 k in
-          subst (λ v. IsHeld G N Old d x t (state G m c.loop-turn.dist c.loop-turn.q) v) (omega (arith, c.fallen-before.ensures)) (is_held G L N Old d k x t on (state G m c.loop-turn.dist c.loop-turn.q) c.loop-turn.turn i.0
+          subst (λ v. IsHeld G N Old d x t (state G m c.loop-turn.dist c.loop-turn.q) v) (omega (arith, c.fallen_before.ensures)) (is_held G L N Old d k x t on (state G m c.loop-turn.dist c.loop-turn.q) c.loop-turn.turn i.0
           (queued_none G L N d _ (keys G m c.loop-turn.queue) (keys G m c.next.new.queue) i.1 (c.in-None.ensures.leaves T.packages c.loop-turn.invariant.0)));
     }
 
-pub returns-in-Some-relax-all : goal.returns-in-Some-relax-all
-returns-in-Some-relax-all g c =
+pub returns-in-Some-relax_all : goal.returns-in-Some-relax_all
+returns-in-Some-relax_all g c =
     let G = g.W.Worth.group in
     let L = g.met.W.Worth.laws in
     let m = g.W.Worth.meaning in
@@ -107,12 +107,12 @@ returns-in-Some-relax-all g c =
     let room : y < length q.turn = let l = left.1 in search rules in
     let finish = finish_reads G m dist q.turn q.from q.at y turn room in
     record {
-      within = (left.1, c.in-Some-relax-all.ensures.within);
+      within = (left.1, c.in-Some-relax_all.ensures.within);
       searched = λ k.
           let i = c.loop-turn.invariant.1 k in
           let best = queued_foremost G L N d (state G m dist q) waiting _ i.1 y leaves in
           let picked = turn_picked G L N Old x t d (state G m dist q) turn i.0 y best.0 best.1 best.2 _ finish (omega arith) (known_explains G L N Old d k) in
-          is_around G L N Old d k x t on _ (turn + 1) y c.in-Some-relax-all.round (omega arith) (c.in-Some-relax-all.ensures.looked.looks t (turn + 1) (turn + 127) d picked);
+          is_around G L N Old d k x t on _ (turn + 1) y c.in-Some-relax_all.round (omega arith) (c.in-Some-relax_all.ensures.looked.looks t (turn + 1) (turn + 127) d picked);
     }
 
 pub loop-turn-preserved : goal.loop-turn-preserved
@@ -140,14 +140,14 @@ loop-turn-preserved g c =
     let leaves = c.in-Some.ensures.leaves T.packages fit in
     let room : y < length q.turn = let l = left.1 in search rules in
     let finish = finish_reads G m dist q.turn q.from q.at y turn room in (
-      c.in-default.ensures.looked.fit left.0,
+      c.in_default.ensures.looked.fit left.0,
       λ k.
           let i = c.loop-turn.invariant.1 k in
           let best = queued_foremost G L N d (state G m dist q) waiting _ i.1 y leaves in
           let picked = turn_picked G L N Old x t d (state G m dist q) turn i.0 y best.0 best.1 best.2 _ finish (omega arith) (known_explains G L N Old d k) in (
             turn_weighing G L N Old x t d (state G m dist q) turn i.0 y best.0 best.1 best.2 _ finish t (λ s a o. let l = o.0 in omega (arith, table_rounds T)) _
-                (c.in-default.ensures.looked.looks t (turn + 1) (turn + 127) d picked),
-            c.in-default.ensures.looked.queues left.0 t (turn + 1) (turn + 127) picked refl (queued_finish G L N d (state G m dist q) _ waiting (keys G m c.next.new.queue) i.1 y turn (omega arith) finish leaves),
+                (c.in_default.ensures.looked.looks t (turn + 1) (turn + 127) d picked),
+            c.in_default.ensures.looked.queues left.0 t (turn + 1) (turn + 127) picked refl (queued_finish G L N d (state G m dist q) _ waiting (keys G m c.next.new.queue) i.1 y turn (omega arith) finish leaves),
           ),
     )
 
@@ -170,6 +170,6 @@ returns g c =
       searched = λ k.
           let i = c.loop-turn.invariant.1 k in
           let turn = c.loop-turn.turn in
-          let e : turn - 2 ≡ c.fallen-before-2.result = omega arith in
+          let e : turn - 2 ≡ c.fallen_before-2.result = omega arith in
           subst (λ v. IsHeld G N Old d x t (state G m c.loop-turn.dist c.loop-turn.q) v) e (is_held G L N Old d k x t on (state G m c.loop-turn.dist c.loop-turn.q) turn i.0 (none_waits G L N Old x t d _ turn i.0 (omega arith)));
     }

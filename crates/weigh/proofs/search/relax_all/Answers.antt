@@ -6,7 +6,7 @@ use Rattle.tables.specs.Readings.{BidAt}
 use Rattle.tables.specs.View.{rounds}
 use Rattle.weigh.proofs.Bids.{bid_earlier, bid_none, bid_other}
 use Rattle.weigh.proofs.search.relax_all.Goals as goal
-use Rattle.weigh.proofs.search.relax_all.Goals.{in-Some+then-stood-y+else-relax, in-Some+else-stood-y, in-default}
+use Rattle.weigh.proofs.search.relax_all.Goals.{in-Some+then-stood-y+else-relax, in-Some+else-stood-y, in_default}
 
 pub loop-s-init : goal.loop-s-init
 loop-s-init g c = (refl, (λ fit. fit), (λ t next j d h. spent_none g.W.Worth.group g.met.W.Worth.laws _ _ c.args.x t d _ next c.args.y j h), (λ fit t next j h k. k))
@@ -20,7 +20,7 @@ loop-s-preserved g c =
     let y = c.args.y in
     let s = c.loop-s.s in
     let early : s + 1 < length R = omega (arith, table_rounds c.args.table.now) in
-    elim c.match-bid-in.branch [
+    elim c.match-bid_in.branch [
       | in-Some+then-stood-y+else-relax w ↦
           let old : Earlier R s y = subst (λ a. Earlier R s a) w.if-stood-y.true (bid_earlier R s _ early w.in-Some.ensures) in (
             ap (λ v. v.turn) w.q-is ∙ w.relax.ensures.turns ∙ c.loop-s.invariant.0,
@@ -38,10 +38,10 @@ loop-s-preserved g c =
         (λ t next j d h. rw (w.dist-is, w.q-is) (spent_skip G L _ _ x t d _ next y j h _ s (c.loop-s.invariant.2 t next j d h) (bid_other R s _ y w.if-stood-y.false w.in-Some.ensures))),
         (λ fit t next j h k. rw (w.dist-is, w.q-is, w.queue-is) (c.loop-s.invariant.3 fit t next j h k)),
       )
-      | in-default w ↦ (
+      | in_default w ↦ (
         ap (λ v. v.turn) w.q-is ∙ c.loop-s.invariant.0,
         (λ fit. rw w.queue-is (c.loop-s.invariant.1 fit)),
-        (λ t next j d h. rw (w.dist-is, w.q-is) (spent_skip G L _ _ x t d _ next y j h _ s (c.loop-s.invariant.2 t next j d h) (bid_none R s y w.in-default.ensures))),
+        (λ t next j d h. rw (w.dist-is, w.q-is) (spent_skip G L _ _ x t d _ next y j h _ s (c.loop-s.invariant.2 t next j d h) (bid_none R s y w.in_default.ensures))),
         (λ fit t next j h k. rw (w.dist-is, w.q-is, w.queue-is) (c.loop-s.invariant.3 fit t next j h k)),
       )
     ]

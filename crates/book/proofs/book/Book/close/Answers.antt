@@ -12,7 +12,7 @@ use Rattle.book.proofs.book.Book.close.Goals as goal
 pub returns-in-Some : goal.returns-in-Some
 returns-in-Some g c = record {
   closed = record {
-    did = did_nothing g.W.Worth.group g.W.Worth.meaning c.args.self.now Closing c.in-Some.refusal (sym c.bars-closing.ensures ∙ c.in-Some.is);
+    did = did_nothing g.W.Worth.group g.W.Worth.meaning c.args.self.now Closing c.in-Some.refusal (sym c.bars_closing.ensures ∙ c.in-Some.is);
     met = λ e. some_none e;
   };
 }
@@ -23,7 +23,7 @@ returns g c =
     let m = g.W.Worth.meaning in
     let b = c.args.self.now in
     let l = ledger_of b in
-    let passed : early l Closing ≡ None = sym c.bars-closing.ensures ∙ c.in-default.is in
+    let passed : early l Closing ≡ None = sym c.bars_closing.ensures ∙ c.in_default.is in
     let settled = close_settled b.state (rounds b.table) (closing_passed l passed) in
     record {
       closed = record {

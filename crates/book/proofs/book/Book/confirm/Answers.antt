@@ -12,7 +12,7 @@ use Rattle.book.proofs.book.Book.confirm.Goals as goal
 pub returns-in-Some : goal.returns-in-Some
 returns-in-Some g c = record {
   confirmed = record {
-    did = did_nothing g.W.Worth.group g.W.Worth.meaning c.args.self.now (Confirming (bears c.args.slip)) c.in-Some.refusal (sym c.bars-confirmation.ensures ∙ c.in-Some.is);
+    did = did_nothing g.W.Worth.group g.W.Worth.meaning c.args.self.now (Confirming (bears c.args.slip)) c.in-Some.refusal (sym c.bars_confirmation.ensures ∙ c.in-Some.is);
     met = λ e. some_none e;
     back = λ misfit e. misfit_slip _ misfit e;
   };
@@ -25,7 +25,7 @@ returns g c =
     let b = c.args.self.now in
     let l = ledger_of b in
     let d = Confirming (bears c.args.slip) in
-    let passed : early l d ≡ None = sym c.bars-confirmation.ensures ∙ c.in-default.is in
+    let passed : early l d ≡ None = sym c.bars_confirmation.ensures ∙ c.in_default.is in
     let trial = confirm_trial b.state (confirmation_passed l (bears c.args.slip) passed) in
     record {
       confirmed = record {

@@ -14,7 +14,7 @@ returns-in-Some g c =
     let width : c.products.result - 0 ≡ T.products = omega arith in
     let last : c.rounds-rounds.result - 1 ≡ length (rounds T) - 1 = omega (arith, table_rounds T) in
     let row : take (c.products.result - 0) old ≡ (round (rounds T) (length (rounds T) - 1)).prices = ap (λ k. take k old) width ∙ c.in-Some.ensures.1 ∙ ap (λ k. (round (rounds T) k).prices) last in
-    c.some-fell.ensures ∙ ap (λ xs. fell xs c.args.prices.now) (row ∙ sym (confirmed_prices b.state (rounds T)))
+    c.some_fell.ensures ∙ ap (λ xs. fell xs c.args.prices.now) (row ∙ sym (confirmed_prices b.state (rounds T)))
 
 pub returns-in-None : goal.returns-in-None
 returns-in-None g c =

@@ -14,7 +14,7 @@ use Rattle.book.proofs.book.Book.open.Goals as goal
 pub returns-in-Some : goal.returns-in-Some
 returns-in-Some g c = record {
   opened = record {
-    did = did_nothing g.W.Worth.group g.W.Worth.meaning c.args.self.now (Opening c.args.prices.now) c.in-Some.refusal (sym c.bars-opening.ensures ∙ c.in-Some.is);
+    did = did_nothing g.W.Worth.group g.W.Worth.meaning c.args.self.now (Opening c.args.prices.now) c.in-Some.refusal (sym c.bars_opening.ensures ∙ c.in-Some.is);
     met = λ e. some_none e;
   };
 }
@@ -26,9 +26,9 @@ returns g c =
     let b = c.args.self.now in
     let l = ledger_of b in
     let prices = c.args.prices.now in
-    let passed : early l (Opening prices) ≡ None = sym c.bars-opening.ensures ∙ c.in-default.is in
-    let took : c.add-round.result ≡ true = c.add-round.ensures.value ∙ opening_takes b prices passed in
-    let is = c.add-round.ensures.after took in
+    let passed : early l (Opening prices) ≡ None = sym c.bars_opening.ensures ∙ c.in_default.is in
+    let took : c.add_round.result ≡ true = c.add_round.ensures.value ∙ opening_takes b prices passed in
+    let is = c.add_round.ensures.after took in
     let free = opened_free (rounds b.table) prices in
     record {
       opened = record {

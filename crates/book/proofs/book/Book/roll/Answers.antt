@@ -18,14 +18,14 @@ use Rattle.book.proofs.book.Book.roll.Goals as goal
 pub returns-in-Some : goal.returns-in-Some
 returns-in-Some g c = record {
   read = record {
-    did = did_nothing g.W.Worth.group g.W.Worth.meaning c.args.self.now (Reading-roll (length c.args.memory.now)) c.in-Some.refusal (sym (c.bars-reading.ensures.roll (length c.args.memory.now) refl) ∙ c.in-Some.is);
+    did = did_nothing g.W.Worth.group g.W.Worth.meaning c.args.self.now (Reading-roll (length c.args.memory.now)) c.in-Some.refusal (sym (c.bars_reading.ensures.roll (length c.args.memory.now) refl) ∙ c.in-Some.is);
     refused = λ e h. refl;
     roll = λ s n h. err_ok h;
   };
 }
 
-pub returns-in-Some-write-roll : goal.returns-in-Some-write-roll
-returns-in-Some-write-roll g c =
+pub returns-in-Some-write_roll : goal.returns-in-Some-write_roll
+returns-in-Some-write_roll g c =
     let G = g.W.Worth.group in
     let m = g.W.Worth.meaning in
     let b = c.args.self.now in
@@ -33,18 +33,18 @@ returns-in-Some-write-roll g c =
     let R = rounds T in
     let memory = c.args.memory.now in
     let d = Reading-roll (length memory) in
-    let passed : early (ledger_of b) d ≡ None = sym (c.bars-reading.ensures.roll (length memory) refl) ∙ c.in-default.is in
-    let done = c.in-Some-write-roll.ensures in
+    let passed : early (ledger_of b) d ≡ None = sym (c.bars_reading.ensures.roll (length memory) refl) ∙ c.in_default.is in
+    let done = c.in-Some-write_roll.ensures in
     let room : leb (length (roll R) * T.products) (length memory) ≡ true =
     le-leb _ _ (omega (arith, roll_fits (length (roll R)) T.products (omega (arith, table_roll T, T.few_packages)) T.few_products, leb-true 2048 (length memory) (enough_passed b d passed))) in
-    let count : c.in-Some-write-roll.count ≡ length (roll R) = some_same (done.value ∙ ap (λ t. then_some t (length (roll R))) room) in
+    let count : c.in-Some-write_roll.count ≡ length (roll R) = some_same (done.value ∙ ap (λ t. then_some t (length (roll R))) room) in
     record {
       read = record {
         did = did_move G m b d b passed (λ s. tt) (λ s. refl) (λ s. s);
         refused = λ e h. none_is_some h;
         roll = λ s n h.
             let same = standing_is b.state R s.stands in
-            (sym (ok_same h) ∙ count ∙ ap (λ rs. length (roll rs)) (sym same), subst (λ rs. c.write-roll.new.bytes ≡ roll_bytes rs ++ drop (length (roll_bytes rs)) memory) (sym same) (done.after refl));
+            (sym (ok_same h) ∙ count ∙ ap (λ rs. length (roll rs)) (sym same), subst (λ rs. c.write_roll.new.bytes ≡ roll_bytes rs ++ drop (length (roll_bytes rs)) memory) (sym same) (done.after refl));
       };
     }
 
@@ -55,7 +55,7 @@ returns-in-None g c =
     let R = rounds T in
     let memory = c.args.memory.now in
     let d = Reading-roll (length memory) in
-    let passed : early (ledger_of b) d ≡ None = sym (c.bars-reading.ensures.roll (length memory) refl) ∙ c.in-default.is in
+    let passed : early (ledger_of b) d ≡ None = sym (c.bars_reading.ensures.roll (length memory) refl) ∙ c.in_default.is in
     let room : leb (length (roll R) * T.products) (length memory) ≡ true =
     le-leb _ _ (omega (arith, roll_fits (length (roll R)) T.products (omega (arith, table_roll T, T.few_packages)) T.few_products, leb-true 2048 (length memory) (enough_passed b d passed))) in
     none_is_some (c.in-None.ensures.value ∙ ap (λ t. then_some t (length (roll R))) room)

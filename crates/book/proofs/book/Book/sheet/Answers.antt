@@ -19,7 +19,7 @@ use Rattle.book.proofs.book.Book.sheet.Goals as goal
 pub returns-in-Some : goal.returns-in-Some
 returns-in-Some g c = record {
   read = record {
-    did = did_nothing g.W.Worth.group g.W.Worth.meaning c.args.self.now (Reading-sheet (length c.args.memory.now)) c.in-Some.refusal (sym (c.bars-reading.ensures.sheet (length c.args.memory.now) refl) ∙ c.in-Some.is);
+    did = did_nothing g.W.Worth.group g.W.Worth.meaning c.args.self.now (Reading-sheet (length c.args.memory.now)) c.in-Some.refusal (sym (c.bars_reading.ensures.sheet (length c.args.memory.now) refl) ∙ c.in-Some.is);
     refused = λ e h. refl;
     long = refl;
     rest = λ n h. err_ok h;
@@ -37,7 +37,7 @@ returns g c =
     let R = rounds T in
     let memory = c.args.memory.now in
     let d = Reading-sheet (length memory) in
-    let passed : early (ledger_of b) d ≡ None = sym (c.bars-reading.ensures.sheet (length memory) refl) ∙ c.in-default.is in
+    let passed : early (ledger_of b) d ≡ None = sym (c.bars_reading.ensures.sheet (length memory) refl) ∙ c.in_default.is in
     let fit = products_fit b d passed in
     let enough = enough_passed b d passed in
     let room : length (roll R) ≤ length memory = omega (arith, table_roll T, T.few_packages, leb-true 128 (length memory) enough) in
@@ -47,14 +47,14 @@ returns g c =
         did = did_move G m b d b passed (λ s. tt) (λ s. refl) (λ s. s);
         refused = λ e h. none_is_some h;
         long = search rules;
-        rest = λ n h. subst (λ k. drop k c.write-sheet.new.sheet ≡ drop k memory) (ok_same h) c.write-sheet.ensures.rest;
+        rest = λ n h. subst (λ k. drop k c.write_sheet.new.sheet ≡ drop k memory) (ok_same h) c.write_sheet.ensures.rest;
         sheet = λ s n h.
             let known : Known G m R c.deref.result.now = subst (Known G m R) (sym c.deref.ensures.value) s.worths in
-            let done = c.write-sheet.ensures.after known room in
+            let done = c.write_sheet.ensures.after known room in
             let standing = standing_is b.state R s.stands in
             let says = sheet_says G L m b.products R _ fit.1 sale done.sheet in (
               sym (ok_same h) ∙ done.count ∙ ap (λ rs. length (roll rs)) (sym standing),
-              subst (λ k. SheetSays G m b.products (with_trial (ledger_of b).rounds (ledger_of b).trial) (map m (take k c.write-sheet.new.sheet))) (ok_same h)
+              subst (λ k. SheetSays G m b.products (with_trial (ledger_of b).rounds (ledger_of b).trial) (map m (take k c.write_sheet.new.sheet))) (ok_same h)
                   (subst (λ rs. SheetSays G m b.products rs _) (sym standing) says),
             );
       };

@@ -29,7 +29,7 @@ returns-in-Ok g c = record {
   start_long = c.requires.1.1.0;
   reads = c.requires.1.1.1;
   refused = λ e h. ok_err h;
-  long = c.put-worths-in-Ok.ensures.long ∙ c.put-worths.ensures.long;
-  forced = λ h e y l. ap (worths g.W.Worth.group g.W.Worth.meaning c.put-worths-in-Ok.new.column) (sym (none_more y)) ∙ c.put-worths-in-Ok.ensures.written y l;
-  kept = λ h e y l. c.put-worths-in-Ok.ensures.past (128 + y) (omega arith) ∙ c.put-worths.ensures.written y l;
+  long = c.put_worths-in-Ok.ensures.long ∙ c.put_worths.ensures.long;
+  forced = λ h e y l. ap (worths g.W.Worth.group g.W.Worth.meaning c.put_worths-in-Ok.new.column) (sym (none_more y)) ∙ c.put_worths-in-Ok.ensures.written y l;
+  kept = λ h e y l. c.put_worths-in-Ok.ensures.past (128 + y) (omega arith) ∙ c.put_worths.ensures.written y l;
 }

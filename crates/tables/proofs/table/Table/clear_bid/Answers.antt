@@ -7,21 +7,21 @@ use Rattle.tables.specs.Tables.{rounds_fit}
 use Rattle.tables.specs.View.{rounds}
 use Rattle.tables.proofs.table.Table.clear_bid.Goals as goal
 
-pub invariant-of-self : goal.invariant-of-self
-invariant-of-self c =
+pub invariant_of-self : goal.invariant_of-self
+invariant_of-self c =
     let T = c.args.self.now in
     let latest = c.latest-latest.result in
     let is = c.latest-latest.ensures in
     let room : latest < length T.bids = search rules in
-    let left = c.packages-before-self.result in (
+    let left = c.packages_before-self.result in (
       T.few_products,
       (
         T.few_rounds,
         (
           search rules,
           (
-            (λ t a l. bids_within T.products T.prices T.rows T.bids latest left None room c.packages-before-self.ensures.within (λ b e. no_place b left e) t a (omega arith)),
-            (unbid_roll T.products T.prices T.rows T.bids T.rounds latest is room ∙ c.packages-before-self.ensures.value, (ap (rounds_fit T.products) (bid_taken T.products T.prices T.rows T.bids T.rounds latest is room) ∙ unbid_fit T.products (rounds T) T.fits, tt)),
+            (λ t a l. bids_within T.products T.prices T.rows T.bids latest left None room c.packages_before-self.ensures.within (λ b e. no_place b left e) t a (omega arith)),
+            (unbid_roll T.products T.prices T.rows T.bids T.rounds latest is room ∙ c.packages_before-self.ensures.value, (ap (rounds_fit T.products) (bid_taken T.products T.prices T.rows T.bids T.rounds latest is room) ∙ unbid_fit T.products (rounds T) T.fits, tt)),
           ),
         ),
       ),
@@ -32,7 +32,7 @@ returns-in-None c =
     let T = c.args.self.now in
     let latest = c.latest-latest.result in
     record {
-      value = sym (latest_bid T latest c.latest-latest.ensures ∙ ap is_some (sym c.bid-at.ensures ∙ c.in-None.is));
+      value = sym (latest_bid T latest c.latest-latest.ensures ∙ ap is_some (sym c.bid_at.ensures ∙ c.in-None.is));
       after = search rules;
       same = refl;
       refused = λ _. refl;
@@ -45,7 +45,7 @@ returns-in-Some c =
     let is = c.latest-latest.ensures in
     let room : latest < length T.bids = search rules in
     record {
-      value = sym (latest_bid T latest is ∙ ap is_some (sym c.bid-at.ensures ∙ c.in-Some.is));
+      value = sym (latest_bid T latest is ∙ ap is_some (sym c.bid_at.ensures ∙ c.in-Some.is));
       after = λ _. bid_taken T.products T.prices T.rows T.bids T.rounds latest is room;
       same = refl;
       refused = search rules;

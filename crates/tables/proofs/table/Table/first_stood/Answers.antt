@@ -12,7 +12,7 @@ unequal None a h e = let z : ◌≡◌ {A = ℕ} 0 1 = cc in omega arith
 unequal (Some b) a h e = both_ways false refl (h.1 (some_same e))
 
 pub returns-then-eq : goal.returns-then-eq
-returns-then-eq c = (omega arith, sym c.bid-at.ensures ∙ equal c.bid-at.result c.args.place c.if-eq.ensures)
+returns-then-eq c = (omega arith, sym c.bid_at.ensures ∙ equal c.bid_at.result c.args.place c.if-eq.ensures)
 
 pub loop-s-preserved : goal.loop-s-preserved
-loop-s-preserved c = below_more _ c.loop-s.s c.loop-s.invariant (λ e. unequal c.bid-at.result c.args.place c.if-eq.ensures (c.bid-at.ensures ∙ e))
+loop-s-preserved c = below_more _ c.loop-s.s c.loop-s.invariant (λ e. unequal c.bid_at.result c.args.place c.if-eq.ensures (c.bid_at.ensures ∙ e))

@@ -2,8 +2,8 @@ use Rattle.std.proofs.Common.{arith}
 use Rattle.tables.proofs.Bids.{gives_back, gives_back_within, latest_on_roll, stays_listed, stood_listed, unstood_unlisted}
 use Rattle.tables.proofs.table.Table.packages_before.Goals as goal
 
-pub overflow-sub-result : goal.overflow-sub-result
-overflow-sub-result c =
+pub overflow_sub-result : goal.overflow_sub-result
+overflow_sub-result c =
     let on = latest_on_roll c.args.self.now c.args.latest c.args.place c.requires.0 c.requires.1 in
     omega arith
 

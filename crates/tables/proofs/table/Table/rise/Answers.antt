@@ -15,7 +15,7 @@ loop-t-preserved g c known =
     let rs = rounds c.args.self.now in
     let t = c.loop-t.t in
     subst (λ o. GreatestLead G m rs (t + 1) o) (sym c.larger-most.ensures)
-    (lead_more G g.met.W.Worth.laws m rs t c.loop-t.most c.lead-in.result (c.loop-t.invariant known) (c.lead-in.ensures known))
+    (lead_more G g.met.W.Worth.laws m rs t c.loop-t.most c.lead_in.result (c.loop-t.invariant known) (c.lead_in.ensures known))
 
 pub returns : goal.returns
 returns g c known =

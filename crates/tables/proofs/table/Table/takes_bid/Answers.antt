@@ -14,5 +14,5 @@ returns-then-self-gt0 c =
     let T = c.args.self.now in
     let long : length c.args.row.now ≡ T.products = search rules in
     let some : 0 < length (rounds T) = omega (arith, table_rounds T, c.latest.ensures) in
-    let free : has_bid (rounds T) ≡ not c.is-none.result = latest_bid T c.latest.result c.latest.ensures ∙ c.is-none.ensures in
-    rw (eq-eqb _ _ long, lt-ltb _ _ some, free) (not_twice c.is-none.result)
+    let free : has_bid (rounds T) ≡ not c.is_none.result = latest_bid T c.latest.result c.latest.ensures ∙ c.is_none.ensures in
+    rw (eq-eqb _ _ long, lt-ltb _ _ some, free) (not_twice c.is_none.result)

@@ -6,8 +6,8 @@ use Rattle.tables.proofs.Bytes.{Laid, laid_all, laid_more, laid_room, rows_so_fa
 use Rattle.tables.proofs.Views.{table_roll}
 use Rattle.tables.proofs.table.Table.write_roll.Goals as goal
 
-pub put-cells-requires : goal.put-cells-requires
-put-cells-requires c =
+pub put_cells-requires : goal.put_cells-requires
+put_cells-requires c =
     let T = c.args.self.now in
     let count = c.packages-count.result in
     let room : count * T.products ≤ length c.loop-k.bytes = omega arith in
@@ -21,8 +21,8 @@ loop-k-preserved c =
     let count = c.packages-count.result in
     let room : count * T.products ≤ length c.loop-k.bytes = omega arith in
     let fits = laid_room T.products T.rows c.args.bytes.now c.loop-k.bytes k at count (search rules) room c.loop-k.invariant in
-    subst (λ bytes. Laid T.products T.rows c.args.bytes.now (k + 1) (at + T.products) bytes) (sym c.put-cells.ensures.after)
-    (laid_more T.products T.rows c.args.bytes.now c.loop-k.bytes k at T.few_products c.put-cells.ensures.long fits c.loop-k.invariant)
+    subst (λ bytes. Laid T.products T.rows c.args.bytes.now (k + 1) (at + T.products) bytes) (sym c.put_cells.ensures.after)
+    (laid_more T.products T.rows c.args.bytes.now c.loop-k.bytes k at T.few_products c.put_cells.ensures.long fits c.loop-k.invariant)
 
 pub returns-then-bytes-count : goal.returns-then-bytes-count
 returns-then-bytes-count c =

@@ -23,9 +23,9 @@ returns-in-Some g c =
     let G = g.W.Worth.group in
     let m = g.W.Worth.meaning in
     let L = g.met.W.Worth.laws in
-    let count = c.write-worths.result in
-    let sheet = c.write-worths.new.sheet in
-    let is = c.write-worths.ensures.value in
+    let count = c.write_worths.result in
+    let sheet = c.write_worths.new.sheet in
+    let is = c.write_worths.ensures.value in
     let many = table_roll T in
     record {
       after = λ known room.
@@ -34,9 +34,9 @@ returns-in-Some g c =
           let fits : count ≤ length sheet = omega arith in
           record {
             count = omega arith;
-            sheet = sheet_from_sums G L m (rounds T) c.args.inner.now sheet c.in-Some.rise count known rise (omega arith) fits c.write-worths.ensures.each;
-            small = sheet_small G L m (rounds T) c.args.inner.now sheet c.in-Some.rise count known rise (omega arith) fits c.write-worths.ensures.each;
+            sheet = sheet_from_sums G L m (rounds T) c.args.inner.now sheet c.in-Some.rise count known rise (omega arith) fits c.write_worths.ensures.each;
+            small = sheet_small G L m (rounds T) c.args.inner.now sheet c.in-Some.rise count known rise (omega arith) fits c.write_worths.ensures.each;
           };
       few = (omega arith, omega arith);
-      rest = c.write-worths.ensures.rest;
+      rest = c.write_worths.ensures.rest;
     }
