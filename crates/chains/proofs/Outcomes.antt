@@ -16,7 +16,7 @@ use Rattle.paths.specs.Counts.{tally}
 use Rattle.paths.specs.Graph as by_place
 use Rattle.paths.specs.Route as by-place-route
 use Rattle.paths.specs.Searching.{State, SmallSteps}
-use Rattle.paths.specs.Weighs.{IsHeld, IsAround}
+use Rattle.paths.specs.Weighs.{IsHeldAt, IsAround}
 use Rattle.paths.specs.declared.Step.{Step}
 use Rattle.worth.specs.Group.{Group, Laws}
 
@@ -100,12 +100,12 @@ module _ (G : Group) (L : Laws G) (R : List Round) (row : List ℕ) (t : ℕ) (l
         leads_there y (l ∷ ls) h = (h.0, there.stood l.round l.from h.1, h.2, h.3, leads_there l.to ls h.4)
 
     -- nothing waits
-    module _ (moved : ℕ) (held : IsHeld G N (Earlier R') d x t st moved) where
+    module _ (moved : ℕ) (held : IsHeldAt G N (Earlier R') d x t st moved) where
       inner_all : by_place.AreInner G N (StoodIn (bids_of R')) st.dist
-      inner_all = inner_same G N N (New (Earlier R') x t) (StoodIn (bids_of R')) there back st.dist held.inner
+      inner_all = inner_same G N N (New (Earlier R') x t) (StoodIn (bids_of R')) there back st.dist held.held.inner
 
       pub held_explained : Explained G R'
-      held_explained = explained_by_row R' G (st.dist, λ s a b h on other. held.explains s a b (back.stood s a h) on other)
+      held_explained = explained_by_row R' G (st.dist, λ s a b h on other. held.held.explains s a b (back.stood s a h) on other)
 
       pub held_inner : (y : ℕ) → y < length (roll R') → Inner G R' (package_at R' y) (st.dist y)
       held_inner y on = inner_by_row R' G y (st.dist y) on (inner_all y on)
@@ -120,10 +120,10 @@ module _ (G : Group) (L : Laws G) (R : List Round) (row : List ℕ) (t : ℕ) (l
 
         over_roll : moved ≡ tally fell (length (roll R))
         over_roll = elim (cases_Bool (listed (roll R) row)) [
-          | inl h ↦ held.moves ∙ ap (tally fell) (ap length (stays R row t latest free enrols h))
+          | inl h ↦ held.held.moves ∙ ap (tally fell) (ap length (stays R row t latest free enrols h))
           | inr h ↦
               let grown = grown_by_one R row t latest free enrols h in
-              held.moves ∙ ap (tally fell) grown ∙ tally_skip fell (length (roll R)) (subst (λ k. fell k ≡ false) (new_place R row t latest free enrols h x place) (ap (λ u. G.less u (d x)) held.root ∙ L.less_irrefl (d x)))
+              held.held.moves ∙ ap (tally fell) grown ∙ tally_skip fell (length (roll R)) (subst (λ k. fell k ≡ false) (new_place R row t latest free enrols h x place) (ap (λ u. G.less u (d x)) held.root ∙ L.less_irrefl (d x)))
         ]
 
         pub held_moved : Moved G R R' moved

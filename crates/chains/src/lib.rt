@@ -8,7 +8,7 @@ use worth::Worth;
 
 /// The laws of chains, worths and sheets, at every kind: a theorem, whose proof is this function's.
 pub fn bids_stand<W: Worth>()
-    ensures { BidsStand group }
+    ensures { BidsStand W.Worth.group }
 {}
 
 /// The sheet at plain money makes each standing bid a best choice among all packages that exist.

@@ -12,5 +12,5 @@ pub mod state;
 
 /// The laws of ledgers, at every kind: a theorem, whose proof is this function's.
 pub fn ledger_stands<W: Worth>()
-    ensures { LedgerLaws group }
+    ensures { LedgerLaws W.Worth.group }
 {}

@@ -41,10 +41,7 @@ fn run(rt: &HostRuntime) -> anyhow::Result<()> {
             rt.stdout().write_all(&tape)?;
             Ok(())
         }
-        Err(BadLine { line, error }) => {
-            let said = format!(in rt.alloc(); "line {line}: {error}")?;
-            Err(said.into())
-        }
+        Err(BadLine { line, error }) => Err(anyhow!("line {line}: {error}")),
     }
 }
 

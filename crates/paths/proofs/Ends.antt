@@ -9,7 +9,7 @@ use Rattle.worth.proofs.Orders.{le_trans, le_or_lt, le_antisym}
 use Rattle.paths.specs.Bids.{Within, New}
 use Rattle.paths.specs.Graph.{Graph, Chain, Explains, EndsAt, AreInner}
 use Rattle.paths.specs.Searching.{State, Waits, Weighing, Closes}
-use Rattle.paths.specs.Weighs.{Known, IsHeld, IsAround}
+use Rattle.paths.specs.Weighs.{Known, IsHeld, IsHeldAt, IsAround}
 use Rattle.paths.proofs.Chains.{join, wider, inner_low, certified, explains, around_none}
 use Rattle.paths.proofs.Counts.{tally_less, tally_not}
 use Rattle.paths.proofs.Links.{reached_fallen, around_below}
@@ -81,7 +81,6 @@ module _ (G : Group) (L : Laws G) (N : Graph G) (Old : ℕ → ℕ → Type 0) (
       is_held = record {
         explains = held_explains;
         inner = held_inner;
-        root = h.search.root_dist;
         moves =
             let done = tally_not (λ w. eqb (st.turn w) 0) count in
             let root : not (eqb (st.turn x) 0) ≡ true = ap not (ne_eqb (st.turn x) 0 (λ e. let r = h.search.root in omega arith)) in
@@ -90,3 +89,6 @@ module _ (G : Group) (L : Laws G) (N : Graph G) (Old : ℕ → ℕ → Type 0) (
             let c = h.counted in
             omega arith;
       }
+
+      pub is_held_at : IsHeldAt G N Old d x t st (next - 2)
+      is_held_at = record { held = is_held; root = h.search.root_dist }

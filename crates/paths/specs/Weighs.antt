@@ -14,12 +14,16 @@ module _ (G : Group) (N : Graph G) (Old : ℕ → ℕ → Type 0) (d : ℕ → G
     pub small : Small G N d 128
 
   module _ (x t : ℕ) (st : State G) where
-    -- the new bid is held: these are the inner worths with it, of which so many fell, but not that of x, and they explain
+    -- the new bid is held: these are the inner worths with it, of which so many fell, and they explain
     pub record IsHeld (moved : ℕ) : Type 0 where
       pub explains : Explains G N (New Old x t) st.dist
       pub inner : AreInner G N (New Old x t) st.dist
-      pub root : st.dist x ≡ d x
       pub moves : moved ≡ tally (λ y. G.less (st.dist y) (d y)) N.count
+
+    -- it is held, and the inner worth of x stays
+    pub record IsHeldAt (moved : ℕ) : Type 0 where
+      pub held : IsHeld moved
+      pub root : st.dist x ≡ d x
 
     -- a chain around is below zero, the links to `last` and its step back to x in `round`; so no worths explain
     pub record IsAround (last round : ℕ) : Type 0 where

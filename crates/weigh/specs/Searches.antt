@@ -2,7 +2,7 @@
 use Rattle.std.specs.Prelude.{◌≡◌, ℕ, ◌-◌, ◌<◌, Bool, List, Option}
 use Rattle.chains.specs.Places.{graph_of, Earlier}
 use Rattle.paths.specs.Looks.{Looks, LooksAll, QueueLooks, QueueLooksAll}
-use Rattle.paths.specs.Weighs.{Known, IsHeld, IsAround}
+use Rattle.paths.specs.Weighs.{Known, IsHeldAt, IsAround}
 use Rattle.queue.specs.declared.Queue.{Queue}
 use Rattle.tables.specs.Known.{worths}
 use Rattle.tables.specs.View.{rounds}
@@ -36,7 +36,7 @@ module _ (G : Group) {X : Type 0} (m : X → G.Carrier) (T : Table) (before : Li
 
   -- how a search ended, for the bid of the latest round
   abbrev pub Ended : List X → Links → Outcome → Type 0
-  Ended dist q (Quiet moved) = IsHeld G (graph_of G (rounds T)) (Earlier (rounds T)) (worths G m before) x (T.rounds - 1) (state G m dist q) moved
+  Ended dist q (Quiet moved) = IsHeldAt G (graph_of G (rounds T)) (Earlier (rounds T)) (worths G m before) x (T.rounds - 1) (state G m dist q) moved
   Ended dist q (Around last round) = IsAround G (graph_of G (rounds T)) (Earlier (rounds T)) (worths G m before) x (T.rounds - 1) (state G m dist q) last round
 
   -- where the worths before are the inner worths of the earlier bids

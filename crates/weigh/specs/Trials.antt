@@ -4,7 +4,7 @@ use Rattle.chains.specs.Places.{graph_of, Earlier}
 use Rattle.chains.specs.Rounds.{Round, roll}
 use Rattle.paths.specs.Entry.{Entry}
 use Rattle.paths.specs.Searching.{State}
-use Rattle.paths.specs.Weighs.{Known, IsHeld, IsAround}
+use Rattle.paths.specs.Weighs.{Known, IsHeldAt, IsAround}
 use Rattle.paths.specs.declared.Step.{Step}
 use Rattle.tables.specs.Known.{worths}
 use Rattle.weigh.specs.Starts.{SmallBefore}
@@ -24,7 +24,7 @@ module _ (G : Group) {X : Type 0} (m : X → G.Carrier) (R : List Round) (x : �
   -- the worths d and the search's end st are those of a bid that is held, and st is what is written
   pub record TrialHeld (d : ℕ → G.Carrier) (st : State G) (moved : ℕ) (written : List X) : Type 0 where
     pub dists : (y : ℕ) → y < length (roll R) → worths G m written y ≡ st.dist y
-    pub held : Known G (graph_of G R) (Earlier R) d → IsHeld G (graph_of G R) (Earlier R) d x (length R - 1) st moved
+    pub held : Known G (graph_of G R) (Earlier R) d → IsHeldAt G (graph_of G R) (Earlier R) d x (length R - 1) st moved
 
   -- or of one that is not, and a chain around is written
   pub record TrialAround (d : ℕ → G.Carrier) (st : State G) (written : List Step) : Type 0 where

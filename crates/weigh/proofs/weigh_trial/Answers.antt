@@ -1,7 +1,7 @@
 use Rattle.std.proofs.Common.{◌≡◌, ℕ, ◌-◌, ◌*◌, ◌^◌, ◌<◌, ◌≤◌, length, drop, sym, refl, ap, ◌∙◌, subst, arith, rules}
 use Rattle.std.proofs.lemmas.Nat.{mul-le}
 use Rattle.chains.specs.Places.{graph_of, Earlier}
-use Rattle.paths.specs.Weighs.{IsAround, IsHeld, Known}
+use Rattle.paths.specs.Weighs.{IsAround, IsHeldAt, Known}
 use Rattle.queue.specs.Contents.{room}
 use Rattle.tables.proofs.Views.{table_roll, table_rounds}
 use Rattle.tables.specs.Known.{worths}
@@ -56,7 +56,7 @@ returns-in-Quiet g c =
         record { same = c.worths_before-before.ensures.same; entry = c.worths_before-before.ensures.comes_in },
         record {
           dists = λ y l. c.write_worths.ensures.written y (omega arith);
-          held = λ k. subst (λ n. IsHeld G (graph_of G (rounds T)) (Earlier (rounds T)) d c.args.place (n - 1) st c.in-Quiet.moved) (sym (table_rounds T)) (c.in-Quiet.ensures.searched k);
+          held = λ k. subst (λ n. IsHeldAt G (graph_of G (rounds T)) (Earlier (rounds T)) d c.args.place (n - 1) st c.in-Quiet.moved) (sym (table_rounds T)) (c.in-Quiet.ensures.searched k);
         },
       ),
     )

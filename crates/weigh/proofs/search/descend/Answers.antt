@@ -1,11 +1,11 @@
 use Rattle.std.proofs.Common.{◌≡◌, ℕ, ◌+◌, ◌-◌, ◌<◌, ◌≤◌, length, sym, refl, subst, arith, rules}
 use Rattle.chains.specs.Places.{graph_of, Earlier}
 use Rattle.chains.specs.Rounds.{roll}
-use Rattle.paths.proofs.Ends.{known_explains, is_around, is_held}
+use Rattle.paths.proofs.Ends.{known_explains, is_around, is_held_at}
 use Rattle.paths.proofs.Queue.{queued_start, queued_none, queued_foremost, queued_finish}
 use Rattle.paths.proofs.Turns.{begun_ready, begun_weighing, turn_picked, turn_weighing, none_waits}
 use Rattle.paths.specs.Searching.{Weighing}
-use Rattle.paths.specs.Weighs.{IsHeld}
+use Rattle.paths.specs.Weighs.{IsHeldAt}
 use Rattle.tables.proofs.Views.{table_roll, table_rounds}
 use Rattle.tables.specs.Known.{worths}
 use Rattle.tables.specs.View.{rounds}
@@ -77,7 +77,7 @@ returns-in-None g c =
       within = omega arith;
       searched = λ k.
           let i = c.loop-turn.invariant.1 k in
-          subst (λ v. IsHeld G N Old d x t (state G m c.loop-turn.dist c.loop-turn.q) v) (omega (arith, c.fallen_before.ensures)) (is_held G L N Old d k x t on (state G m c.loop-turn.dist c.loop-turn.q) c.loop-turn.turn i.0
+          subst (λ v. IsHeldAt G N Old d x t (state G m c.loop-turn.dist c.loop-turn.q) v) (omega (arith, c.fallen_before.ensures)) (is_held_at G L N Old d k x t on (state G m c.loop-turn.dist c.loop-turn.q) c.loop-turn.turn i.0
           (queued_none G L N d _ (keys G m c.loop-turn.queue) (keys G m c.next.new.queue) i.1 (c.in-None.ensures.leaves T.packages c.loop-turn.invariant.0)));
     }
 
@@ -171,5 +171,5 @@ returns g c =
           let i = c.loop-turn.invariant.1 k in
           let turn = c.loop-turn.turn in
           let e : turn - 2 ≡ c.fallen_before-2.result = omega arith in
-          subst (λ v. IsHeld G N Old d x t (state G m c.loop-turn.dist c.loop-turn.q) v) e (is_held G L N Old d k x t on (state G m c.loop-turn.dist c.loop-turn.q) turn i.0 (none_waits G L N Old x t d _ turn i.0 (omega arith)));
+          subst (λ v. IsHeldAt G N Old d x t (state G m c.loop-turn.dist c.loop-turn.q) v) e (is_held_at G L N Old d k x t on (state G m c.loop-turn.dist c.loop-turn.q) turn i.0 (none_waits G L N Old x t d _ turn i.0 (omega arith)));
     }

@@ -15,19 +15,14 @@ invariant_of-self c =
     let lb : t.rounds < length t.bids = search rules in
     let long : length c.args.prices.now ≡ t.products = search rules in
     let cells : take t.products c.price_cells.result ≡ c.args.prices.now = ap (λ k. take k c.price_cells.result) (sym long) ∙ cells_hold c.price_cells.result c.args.prices.now (search rules) c.price_cells.ensures in
-    let after = rounds_opened t.products t.prices t.rows t.bids t.rounds c.price_cells.result lp lb ∙ ap (λ p. rounds t ++ record { prices = p; bid = None } ∷ []) cells in (
-      search rules,
-      (
-        search rules,
-        (
-          search rules,
-          (
-            bids_within t.products t.prices t.rows t.bids t.rounds t.packages None lb t.within (λ a h. no_place a t.packages h),
-            (opened_roll t.products t.prices t.rows t.bids t.rounds c.price_cells.result lp lb ∙ t.enrolled, (ap (rounds_fit t.products) after ∙ opened_fit t.products (rounds t) c.args.prices.now (row_fitting t.products (2 ^ 32) c.args.prices.now long (λ i. let fits = c.type_inv.prices i in omega arith)) t.fits, tt)),
-          ),
-        ),
-      ),
-    )
+    let after = rounds_opened t.products t.prices t.rows t.bids t.rounds c.price_cells.result lp lb ∙ ap (λ p. rounds t ++ record { prices = p; bid = None } ∷ []) cells in record {
+      few_products = search rules;
+      few_rounds = search rules;
+      few_packages = search rules;
+      within = bids_within t.products t.prices t.rows t.bids t.rounds t.packages None lb t.within (λ a h. no_place a t.packages h);
+      enrolled = opened_roll t.products t.prices t.rows t.bids t.rounds c.price_cells.result lp lb ∙ t.enrolled;
+      fits = ap (rounds_fit t.products) after ∙ opened_fit t.products (rounds t) c.args.prices.now (row_fitting t.products (2 ^ 32) c.args.prices.now long (λ i. let fits = c.type_inv.prices i in omega arith)) t.fits;
+    }
 
 pub returns : goal.returns
 returns c =

@@ -13,19 +13,14 @@ invariant_of-self c =
     let latest = c.latest-latest.result in
     let is = c.latest-latest.ensures in
     let room : latest < length T.bids = search rules in
-    let left = c.packages_before-self.result in (
-      T.few_products,
-      (
-        T.few_rounds,
-        (
-          search rules,
-          (
-            (λ t a l. bids_within T.products T.prices T.rows T.bids latest left None room c.packages_before-self.ensures.within (λ b e. no_place b left e) t a (omega arith)),
-            (unbid_roll T.products T.prices T.rows T.bids T.rounds latest is room ∙ c.packages_before-self.ensures.value, (ap (rounds_fit T.products) (bid_taken T.products T.prices T.rows T.bids T.rounds latest is room) ∙ unbid_fit T.products (rounds T) T.fits, tt)),
-          ),
-        ),
-      ),
-    )
+    let left = c.packages_before-self.result in record {
+      few_products = T.few_products;
+      few_rounds = T.few_rounds;
+      few_packages = search rules;
+      within = λ t a l. bids_within T.products T.prices T.rows T.bids latest left None room c.packages_before-self.ensures.within (λ b e. no_place b left e) t a (omega arith);
+      enrolled = unbid_roll T.products T.prices T.rows T.bids T.rounds latest is room ∙ c.packages_before-self.ensures.value;
+      fits = ap (rounds_fit T.products) (bid_taken T.products T.prices T.rows T.bids T.rounds latest is room) ∙ unbid_fit T.products (rounds T) T.fits;
+    }
 
 pub returns-in-None : goal.returns-in-None
 returns-in-None c =

@@ -20,7 +20,14 @@ invariant_of-self c =
     let cells : take T.products c.package_cells-cells.result ≡ row = ap (λ k. take k c.package_cells-cells.result) (sym (bids.row_long T row latest takes is room)) ∙ cells_hold c.package_cells-cells.result row (search rules) c.package_cells-cells.ensures in
     let known : Placed (roll (rounds T)) row (Some place) = (c.in-Some.ensures.0, c.in-Some.ensures.1 ∙ cells) in
     let fit = offered_fit T.products (rounds T) row (row_fitting T.products 256 row (bids.row_long T row latest takes is room) (λ i. let fits = c.type_inv.row i in omega arith)) T.fits in
-    (T.few_products, (T.few_rounds, (T.few_packages, (bids.known_within T row latest takes is room place known, (bids.known_enrolled T row latest takes is room place known, (ap (rounds_fit T.products) (bids.known_after T row latest takes is room place known) ∙ fit, tt))))))
+    record {
+      few_products = T.few_products;
+      few_rounds = T.few_rounds;
+      few_packages = T.few_packages;
+      within = bids.known_within T row latest takes is room place known;
+      enrolled = bids.known_enrolled T row latest takes is room place known;
+      fits = ap (rounds_fit T.products) (bids.known_after T row latest takes is room place known) ∙ fit;
+    }
 
 pub bounds-self-place : goal.bounds-self-place
 bounds-self-place c =
@@ -41,7 +48,14 @@ invariant_of-self-in-None c =
     let few = bids.few T row latest takes is room in
     let below : T.packages < length T.rows = search rules in
     let fit = offered_fit T.products (rounds T) row (row_fitting T.products 256 row (bids.row_long T row latest takes is room) (λ i. let fits = c.type_inv.row i in omega arith)) T.fits in
-    (T.few_products, (T.few_rounds, (omega arith, (bids.new_within T row latest takes is room rows cells new below, (bids.new_enrolled T row latest takes is room rows cells new below, (ap (rounds_fit T.products) (bids.new_after T row latest takes is room rows cells new below) ∙ fit, tt))))))
+    record {
+      few_products = T.few_products;
+      few_rounds = T.few_rounds;
+      few_packages = omega arith;
+      within = bids.new_within T row latest takes is room rows cells new below;
+      enrolled = bids.new_enrolled T row latest takes is room rows cells new below;
+      fits = ap (rounds_fit T.products) (bids.new_after T row latest takes is room rows cells new below) ∙ fit;
+    }
 
 pub returns-in-Some : goal.returns-in-Some
 returns-in-Some c =
