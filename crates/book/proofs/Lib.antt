@@ -4,4 +4,4 @@ pub mod Moves
 pub mod Opens
 pub mod Sizes
 pub mod Settles
-pub mod Reads
+pub mod ReadOut

@@ -1,11 +1,11 @@
 -- What a bid that was weighed by places comes to, in the words of rounds and packages.
-use Rattle.std.proofs.Common.{◌≡◌, ℕ, ◌+◌, ◌-◌, ◌*◌, ◌^◌, ◌<◌, ◌≤◌, Bool, true, false, ◌≢◌, List, [], ◌∷◌, map, length, Some, None, sym, refl, ap, ◌∙◌, subst, inl, inr, arith}
+use Rattle.std.proofs.Common.{◌≡◌, ℕ, ◌+◌, ◌-◌, ◌*◌, ◌^◌, ◌<◌, ◌≤◌, Bool, false, List, [], ◌∷◌, map, length, Some, None, sym, refl, ap, ◌∙◌, subst, inl, inr, arith}
 use Rattle.std.proofs.lemmas.Bool.{cases_Bool}
 use Rattle.chains.proofs.Laws.{chain_laws}
 use Rattle.chains.proofs.Offers.{grown_by_one, new_place, new_stood, no_shorter, offered_long, same_package, stays, stood_new}
-use Rattle.chains.proofs.Places.{explained_by_place, explained_by_row, inner_by_place, inner_by_row, package_stood, within}
+use Rattle.chains.proofs.Places.{explained_by_place, explained_by_row, inner_by_row, package_stood, within}
 use Rattle.chains.specs.Chains.{Explained, Inner}
-use Rattle.chains.specs.Numbers.{in_numbers, Numbered, package_of, Leads, worth_of, chain_sum, Forbids, Moved}
+use Rattle.chains.specs.Numbers.{in_numbers, package_of, Leads, worth_of, chain_sum, Forbids, Moved}
 use Rattle.chains.specs.Places.{package_at, bids_of, graph_of, Earlier}
 use Rattle.chains.specs.Rounds.{Round, round, listed, enrolled, roll, offered, Placed}
 use Rattle.paths.proofs.Chains.{inner_same}

@@ -1,7 +1,7 @@
 -- Chains, worths and inner worths are the same, whether packages go by their rows or by their places on the roll.
-use Rattle.std.proofs.Common.{◌≡◌, ℕ, zero, suc, ◌<◌, Bool, true, false, cond, ltb, ◌≢◌, ◌⊎◌, ◌↔◌, List, [], ◌∷◌, length, get_or, Some, None, Option, sym, refl, ap, ◌∙◌, subst, inl, inr, arith, ltb-true, lt-ltb}
-use Rattle.std.proofs.lemmas.Bool.{both_ways, cases_Bool, cases_lt}
-use Rattle.chains.proofs.Rolls.{Distinct, listed_place, place_listed, roll_distinct, same_eq, same_refl, stood_on_roll}
+use Rattle.std.proofs.Common.{◌≡◌, ℕ, zero, suc, ◌<◌, true, false, cond, ltb, ◌≢◌, List, [], ◌∷◌, length, get_or, Some, None, Option, sym, refl, ap, ◌∙◌, subst, inl, inr, arith, ltb-true, lt-ltb}
+use Rattle.std.proofs.lemmas.Bool.{both_ways, cases_Bool}
+use Rattle.chains.proofs.Rolls.{listed_place, place_listed, roll_distinct, same_eq, same_refl, stood_on_roll}
 use Rattle.chains.specs.Chains.{step, Chain, stay, onward, Explains, Explained, Inner}
 use Rattle.chains.specs.Places.{package_at, bids_for, bids_of, graph_of}
 use Rattle.chains.specs.Rounds.{Round, round, Stood, listed, roll, same, OnRoll}

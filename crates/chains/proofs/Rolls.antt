@@ -1,8 +1,8 @@
 -- The roll: who is on it, each once, and what one more bid does to it.
-use Rattle.std.proofs.Common.{◌≡◌, ℕ, zero, suc, ◌+◌, ◌<◌, ◌≤◌, Bool, true, false, cond, eqb, ◌≢◌, ◌⊎◌, List, [], ◌∷◌, ◌++◌, length, get_or, Some, None, Option, sym, refl, ap, ◌∙◌, subst, inl, inr, arith, length-append, eq-eqb, eqb-true}
+use Rattle.std.proofs.Common.{◌≡◌, ℕ, zero, suc, ◌+◌, ◌<◌, true, false, eqb, ◌≢◌, ◌⊎◌, List, [], ◌∷◌, ◌++◌, length, get_or, Some, None, Option, sym, refl, ap, ◌∙◌, subst, inl, inr, arith, length-append, eq-eqb, eqb-true}
 use Rattle.std.proofs.lemmas.List.{get_or_append_left, get_or_at}
 use Rattle.std.proofs.lemmas.Bool.{both_ways, cases_Bool, cases_lt}
-use Rattle.chains.specs.Rounds.{Round, round, Stood, same, listed, enrolled, roll_on, roll, OnRoll, offered}
+use Rattle.chains.specs.Rounds.{Round, Stood, same, listed, enrolled, roll_on, roll, OnRoll}
 
 pub same_refl : (x : List ℕ) → same x x ≡ true
 same_refl [] = refl

@@ -1,7 +1,7 @@
 -- Rounds in which the same packages stood, at the same prices.
-use Rattle.std.proofs.Common.{◌≡◌, ℕ, zero, suc, true, List, [], ◌∷◌, ◌++◌, None, sym, refl, ap, ◌∙◌, subst, arith}
+use Rattle.std.proofs.Common.{◌≡◌, ℕ, zero, suc, true, List, [], ◌∷◌, ◌++◌, None, sym, refl, ap, subst, arith}
 use Rattle.chains.proofs.Rolls.{roll_round}
-use Rattle.chains.specs.Chains.{step, Chain, stay, onward, Inner}
+use Rattle.chains.specs.Chains.{Chain, stay, onward, Inner}
 use Rattle.chains.specs.Rounds.{Round, round, Stood, listed, roll}
 use Rattle.chains.specs.Steps.{step_at}
 use Rattle.worth.specs.Group.{Group}

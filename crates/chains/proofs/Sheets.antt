@@ -1,5 +1,5 @@
 -- What the sheet gives.
-use Rattle.std.proofs.Common.{◌≡◌, ℕ, zero as nought, suc, ◌^◌, ◌<◌, ◌≤◌, Bool, true, false, ◌≢◌, ◌⊎◌, List, [], ◌∷◌, length, get_or, ℤ, pos, ◌-ℤ◌, nat_abs, IfSome, sym, refl, ap, ◌∙◌, subst, inl, inr, arith}
+use Rattle.std.proofs.Common.{◌≡◌, ℕ, zero as nought, suc, ◌^◌, ◌<◌, ◌≤◌, true, false, List, [], ◌∷◌, length, pos, ◌-ℤ◌, IfSome, sym, refl, ap, ◌∙◌, subst, inl, inr, arith}
 use Rattle.std.proofs.lemmas.List.{get_or_default, same_lists}
 use Rattle.std.proofs.lemmas.Option.{MatchOption-at_some}
 use Rattle.std.proofs.lemmas.Int.{ints}
@@ -7,7 +7,7 @@ use Rattle.std.proofs.lemmas.Bool.{both_ways, cases_Bool}
 use Rattle.chains.proofs.Costs.{cost_bound}
 use Rattle.chains.proofs.Places.{placed, stood_before}
 use Rattle.chains.proofs.Rolls.{same_eq, same_refl, stood_on_roll}
-use Rattle.chains.specs.Chains.{step, Chain, onward, EndsAt, Explains, Inner}
+use Rattle.chains.specs.Chains.{step, onward, EndsAt, Explains, Inner}
 use Rattle.chains.specs.Rounds.{Round, round, Stood, listed, roll, same, OnRoll, Package, Prices, Sale}
 use Rattle.chains.specs.Rows.{cost}
 use Rattle.chains.specs.Sheet.{paid, Rise, Sheet, ReadOff, NoughtOff}

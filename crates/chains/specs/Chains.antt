@@ -1,5 +1,5 @@
 -- Steps, best choices, chains and inner worths, over the standing bids of a sale's rounds.
-use Rattle.std.specs.Prelude.{◌≡◌, ℕ, ◌≢◌, List}
+use Rattle.std.specs.Prelude.{ℕ, ◌≢◌, List}
 use Rattle.chains.specs.Rounds.{Round, round, Stood, OnRoll}
 use Rattle.chains.specs.Steps.{step_at}
 use Rattle.worth.specs.Group.{Group}

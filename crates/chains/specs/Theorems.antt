@@ -1,8 +1,8 @@
 -- What is true of the standing bids of every sale, at every lawful kind.
-use Rattle.std.specs.Prelude.{◌≡◌, ℕ, ◌<◌, ◌≤◌, ◌↔◌, List, [], length, get_or}
+use Rattle.std.specs.Prelude.{◌≡◌, ℕ, ◌≤◌, ◌↔◌, List}
 use Rattle.chains.specs.Chains.{step, Chain, EndsAt, Explains, Explained, Inner}
-use Rattle.chains.specs.Rounds.{Round, Stood, roll, OnRoll, Package, Sale}
-use Rattle.chains.specs.Sheet.{Rise, Sheet, ReadOff, NoughtOff}
+use Rattle.chains.specs.Rounds.{Round, Stood, OnRoll, Package, Sale}
+use Rattle.chains.specs.Sheet.{Sheet, ReadOff, NoughtOff}
 use Rattle.worth.specs.Group.{Group}
 use Rattle.worth.specs.Says.{AtMost, Below}
 

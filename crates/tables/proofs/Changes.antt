@@ -1,12 +1,12 @@
 -- What writes to the tables of a sale do to its rounds and its roll.
-use Rattle.std.proofs.Common.{◌≡◌, ℕ, zero, suc, ◌+◌, ◌-◌, ◌<◌, ◌≤◌, true, false, ◌≢◌, ◌⊎◌, List, [], ◌∷◌, ◌++◌, map, length, get_or, take, set, Some, None, Option, sym, refl, ap, ◌∙◌, inl, inr, arith, length-append, get_or-set_other, get_or-set_same}
+use Rattle.std.proofs.Common.{◌≡◌, ℕ, ◌+◌, ◌<◌, ◌≤◌, true, false, ◌≢◌, List, [], ◌∷◌, ◌++◌, map, length, get_or, take, set, Some, None, Option, sym, refl, ap, ◌∙◌, inl, inr, arith, length-append, get_or-set_other, get_or-set_same}
 use Rattle.std.proofs.lemmas.List.FromFn.{get_or-map-range_with_len, length-map-range_with_len, map-range_with_len_more}
 use Rattle.std.proofs.lemmas.List.{same_lists}
-use Rattle.std.proofs.lemmas.Bool.{both_ways, cases_Bool, cases_eq}
+use Rattle.std.proofs.lemmas.Bool.{cases_Bool, cases_eq}
 use Rattle.std.specs.List.{range_with_len}
 use Rattle.std.specs.Option.{option_map}
-use Rattle.chains.proofs.Rolls.{roll_round, same_eq}
-use Rattle.chains.specs.Rounds.{Round, round, Stood, listed, enrolled, roll_on, roll, offered, same}
+use Rattle.chains.proofs.Rolls.{roll_round}
+use Rattle.chains.specs.Rounds.{Round, listed, enrolled, roll_on, roll, offered}
 use Rattle.tables.proofs.Views.{rounds_long, rounds_more}
 use Rattle.tables.specs.Changes.{unbid}
 use Rattle.tables.specs.Tables.{row_at, packages_of, round_at, rounds_of}

@@ -6,7 +6,7 @@ use Rattle.chains.proofs.Places.{stood_before}
 use Rattle.chains.proofs.Rolls.{place_listed, roll_stood}
 use Rattle.chains.specs.Chains.{EndsAt, Inner}
 use Rattle.chains.specs.Places.{package_at}
-use Rattle.chains.specs.Rounds.{Round, round, Stood, roll}
+use Rattle.chains.specs.Rounds.{Round, Stood, roll}
 use Rattle.chains.specs.Sheet.{paid, Sheet}
 use Rattle.tables.proofs.Views.{some_same}
 use Rattle.tables.specs.Known.{worths, Known, larger_of, Lead, LeadAt, GreatestLead, RiseIs}

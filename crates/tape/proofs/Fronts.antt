@@ -1,7 +1,7 @@
 -- The front of a tape, byte by byte.
-use Rattle.std.proofs.Common.{◌≡◌, ℕ, ◌+◌, ◌*◌, ◌/◌, ◌%◌, ◌^◌, ◌<◌, ◌≤◌, List, [], ◌∷◌, ◌++◌, length, get_or, drop, sym, refl, ap, ◌∙◌, arith}
+use Rattle.std.proofs.Common.{◌≡◌, ℕ, ◌+◌, ◌*◌, ◌/◌, ◌%◌, ◌<◌, ◌≤◌, List, ◌∷◌, ◌++◌, length, get_or, drop, sym, refl, ◌∙◌, arith}
 use Rattle.std.proofs.lemmas.List.{drop_more}
-use Rattle.tape.specs.Format.{be16, header_bytes, kind_number}
+use Rattle.tape.specs.Format.{header_bytes, kind_number}
 use Rattle.tape.specs.Reading.{Headed}
 use Rattle.tape.specs.declared.header.Kind.{Kind}
 use Rattle.tape.specs.declared.header.Kind.TheVariants.{Plain, Strict}

@@ -1,9 +1,8 @@
 -- Steps written one after the other, and turned round.
-use Rattle.std.proofs.Common.{◌≡◌, ℕ, ◌+◌, ◌<◌, ◌≤◌, List, [], ◌∷◌, ◌++◌, map, reverse, length, take, drop, set, sym, ap, ◌∙◌, subst, inl, inr, arith}
-use Rattle.std.proofs.lemmas.List.{drop_at, length-map, length-reverse, length-take-le, reverse-append, take_all, take-append-le, take_more_set}
+use Rattle.std.proofs.Common.{◌≡◌, ℕ, ◌+◌, ◌<◌, ◌≤◌, List, [], ◌∷◌, ◌++◌, reverse, length, take, drop, set, ap, ◌∙◌, subst, inl, inr, arith}
+use Rattle.std.proofs.lemmas.List.{drop_at, length-reverse, length-take-le, reverse-append, take_all, take-append-le, take_more_set}
 use Rattle.chains.specs.Places.{graph_of, Earlier}
 use Rattle.chains.specs.Rounds.{Round}
-use Rattle.paths.specs.Bids.{New}
 use Rattle.paths.specs.Searching.{State}
 use Rattle.paths.specs.Tracing.{Traced}
 use Rattle.paths.specs.declared.Step.{Step}

@@ -1,4 +1,4 @@
-use Rattle.std.proofs.Common.{◌≡◌, ◌≤◌, min, false, eqb, length, Some, Err, sym, refl, ap, ◌∙◌, subst, arith, rules}
+use Rattle.std.proofs.Common.{◌≡◌, ◌≤◌, min, false, eqb, length, Some, Err, sym, refl, ap, ◌∙◌, subst, arith}
 use Rattle.chains.proofs.Offers.{offered_long}
 use Rattle.chains.specs.Rounds.{Placed, Sale, offered, roll}
 use Rattle.tables.proofs.Sales.{sale_of}

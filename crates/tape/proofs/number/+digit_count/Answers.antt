@@ -1,4 +1,4 @@
-use Rattle.std.proofs.Common.{◌≡◌, ◌+◌, ◌/◌, length, decimal, sym, arith}
+use Rattle.std.proofs.Common.{sym, arith}
 use Rattle.std.proofs.lemmas.Fmt.{length-decimal-le}
 use Rattle.tape.proofs.Laid.{length_digit, length_tenth}
 use Rattle.tape.proofs.number.+digit_count.Goals as goal

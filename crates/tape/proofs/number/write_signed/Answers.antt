@@ -1,6 +1,4 @@
-use Rattle.std.proofs.Common.{◌≡◌, true, false, ◌∷◌, pos, nat_abs, decimal, sym, ap, ◌∙◌, subst, arith, rules}
-use lib.Signed.{lt_z}
-use Rattle.std.specs.Fmt.{signed_decimal}
+use Rattle.std.proofs.Common.{◌≡◌, ◌∷◌, nat_abs, decimal, sym, ap, ◌∙◌, subst, arith, rules}
 use Rattle.tape.proofs.Laid.{in-signed, signed_plain, signed_minus}
 use Rattle.tape.specs.Writing.{Wrote}
 use Rattle.tape.proofs.number.write_signed.Goals as goal

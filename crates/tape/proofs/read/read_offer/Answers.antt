@@ -1,6 +1,6 @@
-use Rattle.std.proofs.Common.{◌≡◌, ℕ, ◌*◌, List, [], ◌∷◌, ◌++◌, length, get_or, sym, refl, ap, ◌∙◌, arith, rules}
+use Rattle.std.proofs.Common.{◌≡◌, ℕ, ◌*◌, List, [], ◌∷◌, length, get_or, refl, ap, arith, rules}
 use Rattle.std.proofs.lemmas.Slice.{first_rest}
-use Rattle.tape.proofs.Rows.{RowRead, row_more, row_then}
+use Rattle.tape.proofs.Rows.{row_more, row_then}
 use Rattle.tape.specs.Format.{offer}
 use Rattle.tape.specs.declared.record.Record.TheVariants.{Offer}
 use Rattle.tape.proofs.read.read_offer.Goals as goal

@@ -1,6 +1,6 @@
-use Rattle.std.proofs.Common.{◌≡◌, ◌++◌, length, sym, refl, ap, ◌∙◌, arith, rules}
+use Rattle.std.proofs.Common.{◌++◌, length, sym, refl, ap, ◌∙◌, arith, rules}
 use Rattle.std.proofs.lemmas.Slice.{between_to_end}
-use Rattle.tape.proofs.Rows.{RowRead, row_more, row_then, be32_front, price_bytes_more, length_price_bytes}
+use Rattle.tape.proofs.Rows.{row_more, row_then, be32_front, price_bytes_more, length_price_bytes}
 use Rattle.tape.specs.Format.{be32, price_bytes, opening}
 use Rattle.tape.specs.declared.record.Record.TheVariants.{Open}
 use Rattle.tape.proofs.read.read_opening.Goals as goal

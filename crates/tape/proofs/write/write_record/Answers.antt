@@ -1,4 +1,4 @@
-use Rattle.std.proofs.Common.{◌≡◌, ◌∷◌, length, sym, ap, ◌∙◌, subst, arith, rules}
+use Rattle.std.proofs.Common.{◌∷◌, sym, ap, ◌∙◌, subst, rules}
 use Rattle.tape.proofs.Rows.{first_cells}
 use Rattle.tape.specs.Format.{entry_bytes, entry_of, price_bytes}
 use Rattle.tape.specs.Writing.{Wrote}

@@ -1,4 +1,4 @@
-use Rattle.std.proofs.Common.{◌≡◌, ℕ, ◌+◌, ◌-◌, ◌<◌, ◌≤◌, length, sym, refl, subst, arith, rules}
+use Rattle.std.proofs.Common.{◌≡◌, ◌+◌, ◌-◌, ◌<◌, length, refl, subst, arith, rules}
 use Rattle.chains.specs.Places.{graph_of, Earlier}
 use Rattle.chains.specs.Rounds.{roll}
 use Rattle.paths.proofs.Ends.{known_explains, is_around, is_held_at}

@@ -1,8 +1,7 @@
-use Rattle.std.proofs.Common.{◌≡◌, ℕ, ◌+◌, ◌<◌, length, Some, refl, ap, ◌∙◌, subst, arith}
+use Rattle.std.proofs.Common.{◌≡◌, ℕ, ◌+◌, ◌<◌, length, refl, ap, ◌∙◌, subst, arith}
 use Rattle.chains.specs.Places.{Earlier}
 use Rattle.paths.proofs.Turns.{spent_none, spent_skip, spent_ready, spent_more, spent_full}
 use Rattle.tables.proofs.Views.{table_rounds}
-use Rattle.tables.specs.Readings.{BidAt}
 use Rattle.tables.specs.View.{rounds}
 use Rattle.weigh.proofs.Bids.{bid_earlier, bid_none, bid_other}
 use Rattle.weigh.proofs.search.relax_all.Goals as goal

@@ -2,7 +2,7 @@ use Rattle.std.proofs.Common.{◌≡◌, ◌*◌, ◌≤◌, true, leb, ◌++◌
 use Rattle.std.proofs.lemmas.Bool.{leb-true}
 use Rattle.book.proofs.Moves.{did_move, did_nothing, err_ok, none_is_some, none_some, ok_same, some_same}
 use Rattle.book.proofs.Opens.{enough_passed, products_fit, same_products}
-use Rattle.book.proofs.Reads.{roll_fits}
+use Rattle.book.proofs.ReadOut.{roll_fits}
 use Rattle.book.proofs.Settles.{standing_is}
 use Rattle.book.specs.Calls.{standing}
 use Rattle.book.specs.View.{ledger_of}

@@ -2,7 +2,7 @@ use Rattle.std.proofs.Common.{◌≡◌, ◌≤◌, map, length, take, drop, Non
 use Rattle.std.proofs.lemmas.Bool.{leb-true}
 use Rattle.book.proofs.Moves.{did_move, did_nothing, err_ok, none_is_some, ok_same}
 use Rattle.book.proofs.Opens.{enough_passed, products_fit, same_products}
-use Rattle.book.proofs.Reads.{sheet_says}
+use Rattle.book.proofs.ReadOut.{sheet_says}
 use Rattle.book.proofs.Settles.{standing_is}
 use Rattle.book.specs.Calls.{SheetSays}
 use Rattle.chains.specs.Rounds.{Sale, roll}

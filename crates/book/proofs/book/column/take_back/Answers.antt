@@ -6,5 +6,5 @@ use Rattle.book.proofs.book.column.take_back.Goals as goal
 pub worths_from-before-requires : goal.worths_from-before-requires
 worths_from-before-requires g c = (fewer (length c.args.column.now) 128 _ (omega arith) (search rules), omega arith)
 
-pub shared-whole-as-slice·put-worths : goal.shared-whole-as-slice·put-worths
-shared-whole-as-slice·put-worths g c = fewer (length c.args.column.now) 128 _ (omega arith) (search rules)
+pub shared_whole_as_slice-put_worths : goal.shared_whole_as_slice-put_worths
+shared_whole_as_slice-put_worths g c = fewer (length c.args.column.now) 128 _ (omega arith) (search rules)

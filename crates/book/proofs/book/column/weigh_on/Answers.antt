@@ -6,11 +6,11 @@ use Rattle.book.proofs.book.column.weigh_on.Goals as goal
 pub worths_from-inner-requires : goal.worths_from-inner-requires
 worths_from-inner-requires g c = (fewer (length c.args.column.now) 128 _ (omega arith) (search rules), omega arith)
 
-pub shared-whole-as-slice·weigh-against : goal.shared-whole-as-slice·weigh-against
-shared-whole-as-slice·weigh-against g c = fewer (length c.args.column.now) 128 _ (omega arith) (search rules)
+pub shared_whole_as_slice-weigh_against : goal.shared_whole_as_slice-weigh_against
+shared_whole_as_slice-weigh_against g c = fewer (length c.args.column.now) 128 _ (omega arith) (search rules)
 
-pub whole-as-slice·weigh-against : goal.whole-as-slice·weigh-against
-whole-as-slice·weigh-against g c = fewer (length c.args.column.now) 128 _ (omega arith) (search rules)
+pub whole_as_slice-weigh_against : goal.whole_as_slice-weigh_against
+whole_as_slice-weigh_against g c = fewer (length c.args.column.now) 128 _ (omega arith) (search rules)
 
 pub weigh_against-requires : goal.weigh_against-requires
 weigh_against-requires g c =
