@@ -10,7 +10,7 @@ const TAPE: [u8; 22] = *b"RPB\x00\x01\x00\x07\x02\x00O\x00\x00\x00\x0a\x00\x00\x
 fn lists_a_tape(rt: HostRuntime) -> Result<(), Fail> {
     let mut text = Vec::new(rt.alloc());
     list_tape(&TAPE, &mut text)?;
-    assert!(rt; text.as_slice() == b"book 7 products 2 kind plain\nO 10 20\nT 2 0\nC\n");
+    assert!(rt; text.as_slice() == b"book 7 products 2 kind plain\nO 10 20\nT 2 0\nC\n".as_slice());
     Ok(())
 }
 
@@ -18,7 +18,7 @@ fn lists_a_tape(rt: HostRuntime) -> Result<(), Fail> {
 fn says_where_a_tape_breaks(rt: HostRuntime) -> Result<(), Fail> {
     let mut text = Vec::new(rt.alloc());
     list_tape(&TAPE[0..15], &mut text)?;
-    assert!(rt; text.as_slice() == b"book 7 products 2 kind plain\nNO 16\n");
+    assert!(rt; text.as_slice() == b"book 7 products 2 kind plain\nNO 16\n".as_slice());
     Ok(())
 }
 

@@ -128,13 +128,13 @@ fn opening_there_and_back(rt: HostRuntime) -> Result<(), Fail> {
 fn numbers_at_their_ends(rt: HostRuntime) {
     let mut line = [b'.'; 22];
     assert_eq!(rt; write_number(u64::MAX, &mut line, 1), Some(21));
-    assert_eq!(rt; &line[0..22], b".18446744073709551615.");
+    assert_eq!(rt; &line[0..22], b".18446744073709551615.".as_slice());
     assert_eq!(rt; write_signed(i64::MIN, &mut line, 2), Some(22));
-    assert_eq!(rt; &line[0..22], b".1-9223372036854775808");
+    assert_eq!(rt; &line[0..22], b".1-9223372036854775808".as_slice());
     assert_eq!(rt; write_signed(i64::MIN, &mut line, 3), None);
-    assert_eq!(rt; &line[0..22], b".1-9223372036854775808");
+    assert_eq!(rt; &line[0..22], b".1-9223372036854775808".as_slice());
     assert_eq!(rt; write_number(0, &mut line, 21), Some(22));
     assert_eq!(rt; write_number(0, &mut line, 22), None);
     assert_eq!(rt; write_number(10, &mut line, usize::MAX), None);
-    assert_eq!(rt; &line[0..22], b".1-9223372036854775800");
+    assert_eq!(rt; &line[0..22], b".1-9223372036854775800".as_slice());
 }

@@ -55,7 +55,7 @@ returns g c =
             let says = sheet_says G L m b.products R _ fit.1 sale done.sheet in (
               sym (ok_same h) ∙ done.count ∙ ap (λ rs. length (roll rs)) (sym standing),
               subst (λ k. SheetSays G m b.products (with_trial (ledger_of b).rounds (ledger_of b).trial) (map m (take k c.write_sheet.new.sheet))) (ok_same h)
-                  (subst (λ rs. SheetSays G m b.products rs _) (sym standing) says),
+                  (subst (λ rs. SheetSays G m b.products rs (map m (take c.write_sheet.result c.write_sheet.new.sheet))) (sym standing) says),
             );
       };
     }
