@@ -1,5 +1,5 @@
 -- What a call does to the ledger that its book agrees with.
-use Rattle.std.proofs.Common.{◌≡◌, ℕ, Bool, true, false, ◌&&◌, leb, List, [], ◌∷◌, Some, None, Ok, Err, Option, Result, sym, refl, ap, ◌∙◌, arith}
+use Rattle.std.proofs.Common.{◌≡◌, ℕ, true, List, Some, None, Ok, Err, Option, Result, sym, refl, ap, ◌∙◌, arith}
 use Rattle.book.specs.Calls.{Did}
 use Rattle.book.specs.declared.answer.Misfit.{Misfit}
 use Rattle.book.specs.Sound.{Sound}
@@ -7,7 +7,7 @@ use Rattle.book.specs.View.{confirmed_rounds, ledger_of, trial_row}
 use Rattle.book.specs.declared.book.Book.{Book}
 use Rattle.chains.specs.Rounds.{Round}
 use Rattle.ledger.proofs.Checks.{first_passed, no_refusal, test_passed}
-use Rattle.ledger.specs.Judging.{Consistent, barred, checks, early, fits, long_column, met, refused, right_products, unless}
+use Rattle.ledger.specs.Judging.{Consistent, barred, checks, early, met, refused, right_products}
 use Rattle.ledger.specs.Ledger.{Closing, Confirming, Dealing, Ledger, Offering, Opening, Slip, Withdrawing, moved}
 use Rattle.ledger.specs.Table.{cell}
 use Rattle.ledger.specs.declared.refusal.Refusal.{Refusal}

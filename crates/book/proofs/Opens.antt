@@ -1,11 +1,11 @@
 -- What a call that passes its checks finds, and what opening a round does.
-use Rattle.std.proofs.Common.{◌≡◌, ℕ, ◌+◌, ◌<◌, ◌≤◌, min, true, false, ◌&&◌, eqb, ltb, leb, List, [], ◌∷◌, ◌++◌, length, is_some, None, vec_len, sym, refl, ap, ◌∙◌, subst, arith, length-append, ltb-true, lt-ltb, eq-eqb, eqb-true}
+use Rattle.std.proofs.Common.{◌≡◌, ℕ, ◌<◌, ◌≤◌, true, false, ◌&&◌, eqb, ltb, leb, List, [], ◌∷◌, length, is_some, None, vec_len, sym, ap, ◌∙◌, arith, length-append, ltb-true, lt-ltb, eq-eqb, eqb-true}
 use Rattle.std.proofs.lemmas.Bool.{and_from, and_parts, leb-true}
 use Rattle.book.proofs.Moves.{fit_passed, open_shut, opening_passed}
 use Rattle.book.proofs.Views.{confirmed_long}
 use Rattle.book.specs.View.{confirmed_rounds, ledger_of, trial_row}
 use Rattle.book.specs.declared.book.Book.{Book}
-use Rattle.chains.specs.Rounds.{Round, round}
+use Rattle.chains.specs.Rounds.{Round}
 use Rattle.ledger.proofs.Checks.{first_passed, test_passed}
 use Rattle.ledger.proofs.Rounds.{latest_last}
 use Rattle.ledger.specs.Judging.{checks, early, enough_memory, long_column, right_length}

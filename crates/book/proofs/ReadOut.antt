@@ -1,5 +1,5 @@
 -- What readings say.
-use Rattle.std.proofs.Common.{◌≡◌, ℕ, ◌*◌, ◌≤◌, true, List, map, length, take, sym, ap, ◌∙◌, subst, arith}
+use Rattle.std.proofs.Common.{ℕ, ◌*◌, ◌≤◌, List}
 use Rattle.std.proofs.lemmas.Nat.{mul-le}
 use Rattle.book.specs.Calls.{SheetSays}
 use Rattle.chains.proofs.Sheets.{sheet_laws}

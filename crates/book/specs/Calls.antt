@@ -1,8 +1,8 @@
 -- What the calls of a book promise.
-use Rattle.std.specs.Prelude.{◌≡◌, ℕ, ◌+◌, ◌≤◌, false, List, [], ◌∷◌, ◌++◌, map, length, take, drop, Some, None, Ok, Err, vec_items, vec_len, Option, Result}
+use Rattle.std.specs.Prelude.{◌≡◌, ℕ, ◌+◌, ◌≤◌, false, List, [], ◌∷◌, ◌++◌, map, length, take, drop, Some, None, Ok, Err, Option, Result}
 use Rattle.book.specs.Answers.{told, told_offer, told_slip}
 use Rattle.book.specs.Sound.{Sound}
-use Rattle.book.specs.View.{bears, ledger_of, making_of}
+use Rattle.book.specs.View.{bears, ledger_of}
 use Rattle.book.specs.declared.answer.Misfit.{Misfit}
 use Rattle.book.specs.declared.answer.NotHeld.{NotHeld}
 use Rattle.book.specs.declared.answer.NotHeld.TheVariants.{Contradiction}

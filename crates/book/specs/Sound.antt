@@ -1,5 +1,5 @@
 -- What is true of every book that was made and changed by its calls alone.
-use Rattle.std.specs.Prelude.{◌≡◌, ℕ, ◌<◌, true, false, List, length, drop, vec_items}
+use Rattle.std.specs.Prelude.{◌≡◌, ◌<◌, true, false, List, length, drop, vec_items}
 use Rattle.book.specs.declared.book.Book.{Book}
 use Rattle.chains.specs.Rounds.{Round}
 use Rattle.ledger.specs.declared.state.State.{State}

@@ -1,5 +1,5 @@
 -- What a book stands for, in the words of a ledger.
-use Rattle.std.specs.Prelude.{ℕ, ◌-◌, List, length, None, vec_items, vec_len, Option}
+use Rattle.std.specs.Prelude.{ℕ, List, None, vec_len, Option}
 use Rattle.book.specs.declared.book.Book.{Book}
 use Rattle.book.specs.declared.slip.Slip as book
 use Rattle.chains.specs.Rounds.{Round}

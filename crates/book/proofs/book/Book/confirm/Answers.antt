@@ -1,4 +1,4 @@
-use Rattle.std.proofs.Common.{◌≡◌, true, [], ◌∷◌, None, sym, refl, ap, ◌∙◌, subst}
+use Rattle.std.proofs.Common.{◌≡◌, [], ◌∷◌, None, sym, ap, ◌∙◌, subst}
 use Rattle.book.proofs.Moves.{confirm_trial, confirmation_passed, did_move, did_nothing, done_apart, misfit_slip, ok_err, some_none}
 use Rattle.book.proofs.Settles.{standing_is}
 use Rattle.book.specs.Sound.{Stands}

@@ -1,10 +1,9 @@
-use Rattle.std.proofs.Common.{◌≡◌, ◌*◌, ◌≤◌, true, leb, ◌++◌, length, drop, is_some, None, sym, refl, ap, ◌∙◌, subst, arith, le-leb}
+use Rattle.std.proofs.Common.{◌≡◌, ◌*◌, true, leb, ◌++◌, length, drop, None, sym, refl, ap, ◌∙◌, subst, arith, le-leb}
 use Rattle.std.proofs.lemmas.Bool.{leb-true}
-use Rattle.book.proofs.Moves.{did_move, did_nothing, err_ok, none_is_some, none_some, ok_same, some_same}
-use Rattle.book.proofs.Opens.{enough_passed, products_fit, same_products}
+use Rattle.book.proofs.Moves.{did_move, did_nothing, err_ok, none_is_some, ok_same, some_same}
+use Rattle.book.proofs.Opens.{enough_passed}
 use Rattle.book.proofs.ReadOut.{roll_fits}
 use Rattle.book.proofs.Settles.{standing_is}
-use Rattle.book.specs.Calls.{standing}
 use Rattle.book.specs.View.{ledger_of}
 use Rattle.chains.specs.Rounds.{roll}
 use Rattle.ledger.specs.Judging.{early}

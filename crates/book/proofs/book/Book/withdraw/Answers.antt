@@ -1,4 +1,4 @@
-use Rattle.std.proofs.Common.{◌≡◌, ◌+◌, ◌<◌, ◌≤◌, true, false, [], ◌∷◌, length, drop, None, vec_items, sym, refl, ap, ◌∙◌, subst, arith}
+use Rattle.std.proofs.Common.{◌≡◌, ◌+◌, ◌<◌, ◌≤◌, false, [], ◌∷◌, length, drop, None, vec_items, sym, ap, ◌∙◌, subst, arith}
 use Rattle.book.proofs.Moves.{did_move, did_nothing, misfit_slip, ok_err, open_apart, some_none, withdraw_trial, withdrawal_passed}
 use Rattle.book.proofs.Opens.{long_column_passed}
 use Rattle.book.proofs.Settles.{refilled_items, unbid_free, worths_drop}

@@ -1,4 +1,4 @@
-use Rattle.std.proofs.Common.{◌≡◌, ◌+◌, ◌<◌, length, set, sym, ap, ◌∙◌, arith, rules}
+use Rattle.std.proofs.Common.{◌+◌, ◌<◌, length, set, sym, ap, ◌∙◌, arith, rules}
 use native.Mathlib.Decide.{ℕ_discrete}
 use Rattle.tables.specs.Known.{worths}
 use Rattle.weigh.proofs.Read.{worths_other, worths_read, worths_same}

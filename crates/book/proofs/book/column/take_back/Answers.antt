@@ -1,6 +1,5 @@
-use Rattle.std.proofs.Common.{length, sym, ap, ◌∙◌, arith, rules}
-use Rattle.book.proofs.Sizes.{fewer, none_more}
-use Rattle.tables.specs.Known.{worths}
+use Rattle.std.proofs.Common.{length, arith, rules}
+use Rattle.book.proofs.Sizes.{fewer}
 use Rattle.book.proofs.book.column.take_back.Goals as goal
 
 pub worths_from-before-requires : goal.worths_from-before-requires

@@ -1,4 +1,4 @@
-use Rattle.std.proofs.Common.{◌+◌, sym, refl, ap, ◌∙◌, arith, rules}
+use Rattle.std.proofs.Common.{◌+◌, sym, refl, ap, ◌∙◌, arith}
 use Rattle.book.proofs.Moves.{err_ok, ok_err}
 use Rattle.book.proofs.Sizes.{none_more}
 use Rattle.tables.specs.Known.{worths}

@@ -1,4 +1,4 @@
-use Rattle.std.proofs.Common.{length, refl, ap, ◌∙◌, arith, rules}
+use Rattle.std.proofs.Common.{length, ap, ◌∙◌, arith, rules}
 use Rattle.book.proofs.Sizes.{fewer, none_more}
 use Rattle.tables.specs.Known.{worths}
 use Rattle.book.proofs.book.column.weigh_on.Goals as goal
