@@ -1,7 +1,7 @@
 -- A claim that passes the check holds, and the table passes.
 use Rattle.std.proofs.Common.{◌≡◌, true, List, [], ◌∷◌, refl}
 use Rattle.std.proofs.lemmas.Bool.{and_parts, eqb-true}
-use Rattle.std.specs.List.{AllByRecursion as All}
+use Rattle.std.specs.List.{AllByRecursion}
 use Rattle.cases.proofs.Judgements.{laws_of, judges_so}
 use Rattle.cases.proofs.Sheets.{is_chain_so, pairs_so, sheet_so}
 use Rattle.cases.specs.Check.{passes, all_pass}
@@ -19,7 +19,7 @@ sound (Sheet-is k rounds sheet g) h = sheet_so (group_of k) (laws_of k) rounds s
 sound (Judges k l lines) h = judges_so k l lines h
 
 -- claims that all pass all hold
-all_sound : (cs : List Claim) → all_pass cs ≡ true → All Holds cs
+all_sound : (cs : List Claim) → all_pass cs ≡ true → AllByRecursion Holds cs
 all_sound [] h = tt
 all_sound (c ∷ cs) h = let p = and_parts (passes c) (all_pass cs) h in (sound c p.0, all_sound cs p.1)
 
@@ -28,5 +28,5 @@ table_passes : all_pass table ≡ true
 unfolding table cost step_at
 table_passes = refl
 
-pub table_holds : All Holds table
+pub table_holds : AllByRecursion Holds table
 table_holds = all_sound table table_passes

@@ -1,6 +1,6 @@
 -- The table of the worked cases.
 use Rattle.std.specs.Prelude.{ℕ, pred, List, [], ◌∷◌, ℤ, pos, neg_ℤ, Some, None}
-use Rattle.std.specs.List.{AllByRecursion as All}
+use Rattle.std.specs.List.{AllByRecursion}
 use Rattle.cases.specs.Claims.{Money, plain_money, strict_money, Value, Grounds, Verdict, Met, Held, Refused, Contradicts, Line, Claim, Costs, Sums, Pairs-sum, Sheet-is, Judges, Holds}
 use Rattle.chains.specs.Rounds.{Round, offered}
 use Rattle.ledger.specs.Ledger.{Making, Dealing, Opening, Offering, Closing, Ledger, new}
@@ -117,4 +117,4 @@ table =
 
 -- every case of the table holds
 abbrev pub CasesHold : Type 0
-CasesHold = All Holds table
+CasesHold = AllByRecursion Holds table

@@ -3,7 +3,7 @@ use Rattle.std.proofs.Common.{◌≡◌, ℕ, ◌+◌, ◌*◌, ◌^◌, ◌<◌
 use Rattle.std.proofs.lemmas.Nat.{mul-le}
 use Rattle.std.proofs.lemmas.List.{drop_all, drop_more, get_or-take, length-take, take_all}
 use Rattle.std.proofs.lemmas.Bool.{cases_lt}
-use Rattle.std.specs.List.{AllByRecursion as All}
+use Rattle.std.specs.List.{AllByRecursion}
 use Rattle.chains.specs.Rounds.{Package, Prices}
 use Rattle.chains.specs.Rows.{cost}
 
@@ -37,7 +37,7 @@ cost_next quantities prices n i lq lp h =
     ∙ ap (λ x. x * get_or (take n prices) i 0 + rest) q ∙ ap (λ x. get_or quantities i 0 * x + rest) p
 
 -- a cost is at most as many times 255 * 2 ^ 32 as there are products
-cost_each : (x prices : List ℕ) → All (λ q. q ≤ 255) x → All (λ p. p < 2 ^ 32) prices → cost x prices ≤ length x * (255 * 2 ^ 32)
+cost_each : (x prices : List ℕ) → AllByRecursion (λ q. q ≤ 255) x → AllByRecursion (λ p. p < 2 ^ 32) prices → cost x prices ≤ length x * (255 * 2 ^ 32)
 unfolding cost
 cost_each [] prices hx hp = omega arith
 cost_each (q ∷ x) [] hx hp = omega arith

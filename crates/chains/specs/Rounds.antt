@@ -1,7 +1,7 @@
 -- The rounds of a sale, their standing bids, and the roll.
 -- Inside the definitions rounds and packages are counted from 0; the number that a merchant sees is one more.
 use Rattle.std.specs.Prelude.{◌≡◌, ℕ, ◌^◌, ◌<◌, ◌≤◌, Bool, true, false, cond, List, [], ◌∷◌, ◌++◌, length, IfSome, Some, None, Option, ◌==◌, slice_index_or}
-use Rattle.std.specs.List.{AllByRecursion as All}
+use Rattle.std.specs.List.{AllByRecursion}
 
 -- a round: its prices, and its standing bid if it has one
 pub record Round : Type 0 where
@@ -53,15 +53,15 @@ offered (r ∷ (s ∷ rounds)) x = r ∷ offered (s ∷ rounds) x
 
 -- a package of a sale with n products: n quantities of 0 to 255
 abbrev pub Package : ℕ → List ℕ → Type 0
-Package n x = (length x ≡ n) × All (λ q. q ≤ 255) x
+Package n x = (length x ≡ n) × AllByRecursion (λ q. q ≤ 255) x
 
 -- a row of prices in such a sale: n prices of 32 bits
 abbrev pub Prices : ℕ → List ℕ → Type 0
-Prices n prices = (length prices ≡ n) × All (λ p. p < 2 ^ 32) prices
+Prices n prices = (length prices ≡ n) × AllByRecursion (λ p. p < 2 ^ 32) prices
 
 -- the rounds of such a sale
 abbrev pub Sale : ℕ → List Round → Type 0
-Sale n rounds = All (λ r. Prices n r.prices × IfSome r.bid (Package n)) rounds
+Sale n rounds = AllByRecursion (λ r. Prices n r.prices × IfSome r.bid (Package n)) rounds
 
 -- where a list has a package: the place that holds it, or none exactly when it is not listed
 abbrev pub Placed : List (List ℕ) → List ℕ → Option ℕ → Type 0

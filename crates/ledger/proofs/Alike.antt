@@ -1,7 +1,7 @@
 -- Ledgers of books made alike.
 use Rattle.std.proofs.Common.{◌≡◌, ℕ, true, ◌&&◌, ◌∷◌, Option, sym, refl, ap, ◌∙◌, subst}
 use Rattle.std.proofs.lemmas.Bool.{and_parts}
-use Rattle.std.specs.List.{AllByRecursion as All}
+use Rattle.std.specs.List.{AllByRecursion}
 use Rattle.ledger.specs.Cleaning.{remade}
 use Rattle.ledger.specs.Judging.{right_products, long_column, fit, enough_memory, unless, first, own_checks, early, Consistent, Judged, met, contradicts, barred}
 use Rattle.ledger.specs.Laws.{LawfulRound, Stands, Lawful}
@@ -53,7 +53,7 @@ module _ (G : Group) where
   pub remade_lawful : (l : Ledger) (n : Making) → l.making.products ≡ n.products → Lawful G l → Lawful G (remade n l)
   remade_lawful l n same h = record {
     few = h.few;
-    rounds = subst (λ k. All (LawfulRound k) l.rounds) same h.rounds;
+    rounds = subst (λ k. AllByRecursion (LawfulRound k) l.rounds) same h.rounds;
     rising = h.rising;
     explained = h.explained;
     stands = subst (λ k. Stands G k l.state l.rounds l.trial) same h.stands;

@@ -1,7 +1,7 @@
 -- A dealing meets no early refusal exactly when it passes every check.
 use Rattle.std.proofs.Common.{◌≡◌, ℕ, ◌≤◌, Bool, true, false, ltb, List, [], ◌∷◌, Some, None, Option, refl, arith}
 use Rattle.std.proofs.lemmas.Bool.{ltb-false, le-ltb, or_parts, or_from}
-use Rattle.std.specs.List.{AllByRecursion as All}
+use Rattle.std.specs.List.{AllByRecursion}
 use Rattle.ledger.specs.Judging.{first, unless, too_high, early, Consistent, Judged, met}
 use Rattle.ledger.specs.Ledger.{Dealing, Ledger}
 use Rattle.ledger.specs.declared.refusal.Refusal.{Refusal}
@@ -13,7 +13,7 @@ no_refusal r h = let z : ◌≡◌ {A = ℕ} 0 1 = cc in absurd (omega arith)
 
 -- every check on a list is passed
 abbrev pub Passed : List (Option Refusal) → Type 0
-Passed = All (λ o. o ≡ None)
+Passed = AllByRecursion (λ o. o ≡ None)
 
 pub first_passed : (os : List (Option Refusal)) → first os ≡ None → Passed os
 first_passed [] h = tt
@@ -33,11 +33,11 @@ pub passes : (b : Bool) (r : Refusal) → b ≡ true → unless b r ≡ None
 passes b r h = rw h refl
 
 -- no price is too high
-pub low_bounded : (prices : List ℕ) → too_high prices ≡ false → All (λ p. p ≤ 1000000000) prices
+pub low_bounded : (prices : List ℕ) → too_high prices ≡ false → AllByRecursion (λ p. p ≤ 1000000000) prices
 low_bounded [] h = tt
 low_bounded (p ∷ prices) h = let e = or_parts (ltb 1000000000 p) (too_high prices) h in (ltb-false 1000000000 p e.0, low_bounded prices e.1)
 
-pub bounded_low : (prices : List ℕ) → All (λ p. p ≤ 1000000000) prices → too_high prices ≡ false
+pub bounded_low : (prices : List ℕ) → AllByRecursion (λ p. p ≤ 1000000000) prices → too_high prices ≡ false
 bounded_low [] h = refl
 bounded_low (p ∷ prices) h = or_from (ltb 1000000000 p) (too_high prices) (le-ltb 1000000000 p h.0) (bounded_low prices h.1)
 

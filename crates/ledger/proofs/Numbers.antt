@@ -1,7 +1,7 @@
 -- The checks of a dealing stand in the order of their numbers, which are below 12.
 use Rattle.std.proofs.Common.{◌≡◌, ℕ, ◌≤◌, Bool, true, false, ◌↔◌, List, [], ◌∷◌, IfSome, Some, None, Option, sym, refl, ap, ◌∙◌, arith}
 use Rattle.std.proofs.ByRecursion.{All-weaker}
-use Rattle.std.specs.List.{AllByRecursion as All}
+use Rattle.std.specs.List.{AllByRecursion}
 use Rattle.ledger.proofs.Checks.{no_refusal}
 use Rattle.ledger.specs.Judging.{unless, refused, first, own_checks, checks, early, Consistent, Judged, met, contradicts, barred}
 use Rattle.ledger.specs.Ledger.{Dealing, Opening, Offering, Confirming, Withdrawing, Closing, Reading-sheet, Reading-roll, Ledger}
@@ -95,12 +95,12 @@ checks_in_order l d =
     (then 2 (omega arith) (test_between _ ShortMemory 1 (omega arith))
     (own_in_order l d))
 
-at_least : {lo : ℕ} {os : List (Option Refusal)} → InOrder lo os → All (Told (λ s. lo ≤ refusal_number s)) os
+at_least : {lo : ℕ} {os : List (Option Refusal)} → InOrder lo os → AllByRecursion (Told (λ s. lo ≤ refusal_number s)) os
 at_least ended = tt
 at_least (then {o = o} {os = os} hi up here rest) =
     (told_weaker _ _ (λ r b. b.0) o here, All-weaker _ _ (λ p. told_weaker _ _ (λ r b. omega arith) p) os (at_least rest))
 
-first_lowest : {lo : ℕ} (os : List (Option Refusal)) (r : Refusal) → InOrder lo os → first os ≡ Some r → All (Told (λ s. refusal_number r ≤ refusal_number s)) os
+first_lowest : {lo : ℕ} (os : List (Option Refusal)) (r : Refusal) → InOrder lo os → first os ≡ Some r → AllByRecursion (Told (λ s. refusal_number r ≤ refusal_number s)) os
 first_lowest [] r ended e = no_refusal r (sym e)
 first_lowest (None ∷ os) r (then hi up here rest) e = (tt, first_lowest os r rest e)
 first_lowest (Some q ∷ os) r (then hi up here rest) e =
@@ -113,7 +113,7 @@ first_below [] r ended e = no_refusal r (sym e)
 first_below (None ∷ os) r (then hi up here rest) e = first_below os r rest e
 first_below (Some q ∷ os) r (then hi up here rest) e = let is : q ≡ r = cc in omega (arith, ap refusal_number is)
 
-pub lowest : (l : Ledger) (d : Dealing) (r : Refusal) → early l d ≡ Some r → All (λ o. IfSome o (λ s. refusal_number r ≤ refusal_number s)) (checks l d)
+pub lowest : (l : Ledger) (d : Dealing) (r : Refusal) → early l d ≡ Some r → AllByRecursion (λ o. IfSome o (λ s. refusal_number r ≤ refusal_number s)) (checks l d)
 lowest l d r e = first_lowest (checks l d) r (checks_in_order l d) e
 
 module _ (G : Group) where

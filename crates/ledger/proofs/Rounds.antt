@@ -1,7 +1,7 @@
 -- The rounds of a sale one by one, and the latest of them with a bid.
 use Rattle.std.proofs.Common.{◌≡◌, ℕ, zero, suc, ◌-◌, ◌<◌, List, [], ◌∷◌, ◌++◌, length, Some, refl, ap, ◌∙◌, arith, length-append}
 use Rattle.std.proofs.lemmas.List.{get_or_append_left, get_or_at}
-use Rattle.std.specs.List.{AllByRecursion as All}
+use Rattle.std.specs.List.{AllByRecursion}
 use Rattle.ledger.specs.Judging.{latest}
 use Rattle.ledger.specs.Laws.{LawfulRound}
 use Rattle.chains.specs.Rounds.{Round, round, offered}
@@ -44,7 +44,7 @@ offered_prices (r ∷ []) x (suc t) = refl
 offered_prices (r ∷ (s ∷ rounds)) x zero = refl
 offered_prices (r ∷ (s ∷ rounds)) x (suc t) = offered_prices (s ∷ rounds) x t
 
-pub offered_lawful : (n : ℕ) (rounds : List Round) (x : List ℕ) → length x ≡ n → All (LawfulRound n) rounds → All (LawfulRound n) (offered rounds x)
+pub offered_lawful : (n : ℕ) (rounds : List Round) (x : List ℕ) → length x ≡ n → AllByRecursion (LawfulRound n) rounds → AllByRecursion (LawfulRound n) (offered rounds x)
 offered_lawful n [] x h all = all
 offered_lawful n (r ∷ []) x h all = (record { priced = all.0.priced; bounded = all.0.bounded; sized = h }, tt)
 offered_lawful n (r ∷ (s ∷ rounds)) x h all = (all.0, offered_lawful n (s ∷ rounds) x h all.1)

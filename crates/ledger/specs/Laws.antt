@@ -1,6 +1,6 @@
 -- What is true of every ledger, at every kind.
 use Rattle.std.specs.Prelude.{◌≡◌, ℕ, ◌+◌, ◌<◌, ◌≤◌, true, false, ◌↔◌, List, length, is_some, IfSome, Some, None, Option}
-use Rattle.std.specs.List.{AllByRecursion as All}
+use Rattle.std.specs.List.{AllByRecursion}
 use Rattle.ledger.specs.Cleaning.{clean, settled, remade, Meets}
 use Rattle.ledger.specs.Feeding.{Fed, Feeds}
 use Rattle.ledger.specs.Judging.{fit, fell, latest, checks, early, Consistent, Judged}
@@ -17,7 +17,7 @@ use Rattle.worth.specs.Group.{Group}
 -- a round in a sale with n products: n prices of at most 1,000,000,000, and a bid, if any, of n quantities
 pub record LawfulRound (n : ℕ) (r : Round) : Type 0 where
   pub priced : length r.prices ≡ n
-  pub bounded : All (λ p. p ≤ 1000000000) r.prices
+  pub bounded : AllByRecursion (λ p. p ≤ 1000000000) r.prices
   pub sized : IfSome r.bid (λ row. length row ≡ n)
 
 -- no price falls from one round to the next
@@ -48,7 +48,7 @@ module _ (G : Group) where
   -- what a ledger keeps is a lawful sale
   pub record Lawful (l : Ledger) : Type 0 where
     pub few : length l.rounds ≤ 128
-    pub rounds : All (LawfulRound l.making.products) l.rounds
+    pub rounds : AllByRecursion (LawfulRound l.making.products) l.rounds
     pub rising : Rising l.rounds
     -- the confirmed bids are explained
     pub explained : Explained G l.rounds
@@ -61,7 +61,7 @@ module _ (G : Group) where
     pub decided : (l : Ledger) (d : Dealing) → (o : Option Refusal) × Judged G l d o
     -- of the refusals that fit a dealing, the one with the lowest number is told
     pub lowest : (l : Ledger) (d : Dealing) (r : Refusal) → early l d ≡ Some r
-        → All (λ o. IfSome o (λ s. refusal_number r ≤ refusal_number s)) (checks l d)
+        → AllByRecursion (λ o. IfSome o (λ s. refusal_number r ≤ refusal_number s)) (checks l d)
     -- a contradiction is told exactly when nothing earlier is and no worths explain
     pub contradiction : (l : Ledger) (d : Dealing) → Judged G l d (Some Contradiction) ↔ ((early l d ≡ None) × ¬ Consistent G l d)
     -- fit books made alike judge alike

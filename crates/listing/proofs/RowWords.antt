@@ -6,14 +6,14 @@ use Rattle.listing.specs.Scanning.{ReadsRecord}
 use Rattle.listing.specs.Text.{cells}
 use Rattle.std.proofs.ByRecursion.{All-map, All-push, All-weaker}
 use Rattle.std.proofs.lemmas.List.{length-append, length-map, length_push, map_push, nil_from_length, set_at}
-use Rattle.std.specs.List.{AllByRecursion as All}
+use Rattle.std.specs.List.{AllByRecursion}
 use Rattle.tape.specs.Format.{Entry, opening, offer, confirmation, withdrawal, closing, reading, Fits, letter, padded, record_of}
 use Rattle.tape.specs.Reading.{Fit}
 use Rattle.tape.specs.declared.record.Record.{Record}
 
 -- n words that write numbers of so many bits
 abbrev pub Row : ℕ → ℕ → List (List ℕ) → Type 0
-Row bits n ws = (length ws ≡ n) × All (λ w. Numeral w × (value w < 2 ^ bits)) ws
+Row bits n ws = (length ws ≡ n) × AllByRecursion (λ w. Numeral w × (value w < 2 ^ bits)) ws
 
 -- the first n words of ws were read into 16 cells, and left follow
 pub record RowSaid (bits n : ℕ) (ws left : List (List ℕ)) (filled : List ℕ) : Type 0 where
@@ -46,7 +46,7 @@ row_more bits i x w ws left more filled room e numeral v small r =
     }
 
 -- what holds of all holds of what stands behind a front
-all_behind : {X : Type 0} (Q : X → Type 0) (xs : List X) (y : X) (ys : List X) → All Q (xs ++ y ∷ ys) → Q y
+all_behind : {X : Type 0} (Q : X → Type 0) (xs : List X) (y : X) (ys : List X) → AllByRecursion Q (xs ++ y ∷ ys) → Q y
 all_behind Q [] y ys h = h.0
 all_behind Q (x ∷ xs) y ys h = all_behind Q xs y ys h.1
 
@@ -56,7 +56,7 @@ pub row_breaks : (bits i n : ℕ) (ws left : List (List ℕ)) (filled : List ℕ
     → RowSaid bits i ws left filled → Row bits n ws → ⊥
 row_breaks bits i n ws [] filled short bad r row = omega (arith, ap length r.split, length-append r.done [], r.row.0, row.0)
 row_breaks bits i n ws (w ∷ more) filled short bad r row =
-    let here = all_behind (λ u. Numeral u × (value u < 2 ^ bits)) r.done w more (subst (All (λ u. Numeral u × (value u < 2 ^ bits))) r.split row.1) in
+    let here = all_behind (λ u. Numeral u × (value u < 2 ^ bits)) r.done w more (subst (AllByRecursion (λ u. Numeral u × (value u < 2 ^ bits))) r.split row.1) in
     bad w more refl here.0 here.1
 
 -- no row: a word is left
@@ -70,20 +70,20 @@ row_whole bits n ws left filled none r =
     let all = r.split ∙ ap (λ l. r.done ++ l) none ∙ append-nil r.done in
     (subst (Row bits n) (sym all) r.row, r.holds ∙ ap (λ l. padded (map value l)) (sym all))
 
-row_each : (bits : ℕ) (ws : List (List ℕ)) → All Numeral ws → All (λ x. x < 2 ^ bits) (map value ws) → All (λ w. Numeral w × (value w < 2 ^ bits)) ws
+row_each : (bits : ℕ) (ws : List (List ℕ)) → AllByRecursion Numeral ws → AllByRecursion (λ x. x < 2 ^ bits) (map value ws) → AllByRecursion (λ w. Numeral w × (value w < 2 ^ bits)) ws
 row_each bits [] numerals small = tt
 row_each bits (w ∷ ws) numerals small = ((numerals.0, small.0), row_each bits ws numerals.1 small.1)
 
 -- the row that numerals write
-row_of : (bits n : ℕ) (ws : List (List ℕ)) (row : List ℕ) → All Numeral ws → map value ws ≡ row → (length row ≡ n) × All (λ x. x < 2 ^ bits) row → Row bits n ws
+row_of : (bits n : ℕ) (ws : List (List ℕ)) (row : List ℕ) → AllByRecursion Numeral ws → map value ws ≡ row → (length row ≡ n) × AllByRecursion (λ x. x < 2 ^ bits) row → Row bits n ws
 row_of bits n ws row numerals e fits =
-    (sym (length-map ws value) ∙ ap length e ∙ fits.0, row_each bits ws numerals (subst (All (λ x. x < 2 ^ bits)) (sym e) fits.1))
+    (sym (length-map ws value) ∙ ap length e ∙ fits.0, row_each bits ws numerals (subst (AllByRecursion (λ x. x < 2 ^ bits)) (sym e) fits.1))
 
-row_fits : (bits n : ℕ) (ws : List (List ℕ)) → Row bits n ws → (length (map value ws) ≡ n) × All (λ x. x < 2 ^ bits) (map value ws)
+row_fits : (bits n : ℕ) (ws : List (List ℕ)) → Row bits n ws → (length (map value ws) ≡ n) × AllByRecursion (λ x. x < 2 ^ bits) (map value ws)
 row_fits bits n ws row =
     (length-map ws value ∙ row.0, All-map (λ x. x < 2 ^ bits) value ws (All-weaker (λ w. Numeral w × (value w < 2 ^ bits)) (λ w. value w < 2 ^ bits) (λ w h. h.1) ws row.1))
 
-row_numerals : (bits : ℕ) (ws : List (List ℕ)) → All (λ w. Numeral w × (value w < 2 ^ bits)) ws → All Numeral ws
+row_numerals : (bits : ℕ) (ws : List (List ℕ)) → AllByRecursion (λ w. Numeral w × (value w < 2 ^ bits)) ws → AllByRecursion Numeral ws
 row_numerals bits ws row = All-weaker (λ w. Numeral w × (value w < 2 ^ bits)) Numeral (λ w h. h.0) ws row
 
 -- the letter O and n prices say an opening, and nothing else does

@@ -8,7 +8,7 @@ use Rattle.std.proofs.lemmas.Fmt.{decimal_nonempty, digits_decimal, digits_value
 use Rattle.std.proofs.ByRecursion.{All-weaker}
 use Rattle.std.proofs.lemmas.Str.Parse.{IsNumeralModel, numerals_by_fold}
 use Rattle.std.proofs.lemmas.Bool.{cond-false, ne_eqb, or_from}
-use Rattle.std.specs.List.{AllByRecursion as All}
+use Rattle.std.specs.List.{AllByRecursion}
 use Rattle.tape.specs.Format.{Entry, opening, offer, confirmation, withdrawal, closing, reading, Fits, letter, record_of}
 use Rattle.tape.specs.Reading.{Fit}
 use Rattle.tape.specs.declared.header.Header.{Header}
@@ -65,9 +65,9 @@ heading_one ws b p k b' p' k' h h' =
     (sym h.book_is ∙ ap value books ∙ h'.book_is, sym h.products_is ∙ ap value products ∙ h'.products_is, kind_one k k' kinds)
 
 -- the digits of a number
-own : IsNumeralModel (All (λ d. (48 ≤ d) × (d ≤ 57))) (value_from 0)
+own : IsNumeralModel (AllByRecursion (λ d. (48 ≤ d) × (d ≤ 57))) (value_from 0)
 own =
-    numerals_by_fold (All (λ d. (48 ≤ d) × (d ≤ 57)))
+    numerals_by_fold (AllByRecursion (λ d. (48 ≤ d) × (d ≤ 57)))
     (record { empty = tt; parts = λ c cs h. h; more = λ c cs digit h. (digit, h) }) value_from
     (record { empty = λ n. refl; more = λ n c cs digit. refl })
 
@@ -78,13 +78,13 @@ pub decimal_value : (n : ℕ) → n < 2 ^ 64 → value (decimal n) ≡ n
 decimal_value n h = digits_value-decimal own n h
 
 -- digits are part of a word, and start no comment
-digits_word : (word ds rest : List ℕ) → All (λ d. (48 ≤ d) × (d ≤ 57)) ds → words_from word (ds ++ rest) ≡ words_from (word ++ ds) rest
+digits_word : (word ds rest : List ℕ) → AllByRecursion (λ d. (48 ≤ d) × (d ≤ 57)) ds → words_from word (ds ++ rest) ≡ words_from (word ++ ds) rest
 digits_word word [] rest h = ap (λ w. words_from w rest) (sym (append-nil word))
 digits_word word (d ∷ ds) rest h =
     let plain : blank d ≡ false = or_from (eqb d 32) _ (ne_eqb d 32 (λ e. omega arith)) (or_from (eqb d 9) (eqb d 13) (ne_eqb d 9 (λ e. omega arith)) (ne_eqb d 13 (λ e. omega arith))) in
     cond-false (blank d) _ (words_from (word ++ d ∷ []) (ds ++ rest)) plain ∙ digits_word (word ++ d ∷ []) ds rest h.1 ∙ ap (λ w. words_from w rest) (append_assoc word (d ∷ []) ds)
 
-digits_uncommented : (ds rest : List ℕ) → All (λ d. (48 ≤ d) × (d ≤ 57)) ds → before_comment (ds ++ rest) ≡ ds ++ before_comment rest
+digits_uncommented : (ds rest : List ℕ) → AllByRecursion (λ d. (48 ≤ d) × (d ≤ 57)) ds → before_comment (ds ++ rest) ≡ ds ++ before_comment rest
 digits_uncommented [] rest h = refl
 digits_uncommented (d ∷ ds) rest h =
     cond-false (eqb d 35) [] (d ∷ before_comment (ds ++ rest)) (ne_eqb d 35 (λ e. omega arith)) ∙ ap (λ l. d ∷ l) (digits_uncommented ds rest h.1)
@@ -97,27 +97,27 @@ number_uncommented : (n : ℕ) (rest : List ℕ) → n < 2 ^ 64 → before_comme
 number_uncommented n rest h = digits_uncommented (decimal n) rest (digits_decimal own n h)
 
 -- a row's numbers are words
-row_words : (word row : List ℕ) → All (λ x. x < 2 ^ 64) row → words_from word (row_text row) ≡ ended word (map decimal row)
+row_words : (word row : List ℕ) → AllByRecursion (λ x. x < 2 ^ 64) row → words_from word (row_text row) ≡ ended word (map decimal row)
 row_words word [] h = refl
 row_words word (x ∷ xs) h =
     ap (ended word) (digits_word [] (decimal x) (row_text xs) (digits_decimal own x h.0) ∙ row_words (decimal x) xs h.1 ∙ ended_some (decimal x) (map decimal xs) (decimal_nonempty x h.0))
 
-row_uncommented : (row : List ℕ) → All (λ x. x < 2 ^ 64) row → before_comment (row_text row) ≡ row_text row
+row_uncommented : (row : List ℕ) → AllByRecursion (λ x. x < 2 ^ 64) row → before_comment (row_text row) ≡ row_text row
 row_uncommented [] h = refl
 row_uncommented (x ∷ xs) h = ap (λ l. 32 ∷ l) (number_uncommented x (row_text xs) h.0 ∙ ap (λ l. decimal x ++ l) (row_uncommented xs h.1))
 
-row_numerals : (row : List ℕ) → All (λ x. x < 2 ^ 64) row → All Numeral (map decimal row)
+row_numerals : (row : List ℕ) → AllByRecursion (λ x. x < 2 ^ 64) row → AllByRecursion Numeral (map decimal row)
 row_numerals [] h = tt
 row_numerals (x ∷ xs) h = (decimal_numeral x h.0, row_numerals xs h.1)
 
-row_values : (row : List ℕ) → All (λ x. x < 2 ^ 64) row → map value (map decimal row) ≡ row
+row_values : (row : List ℕ) → AllByRecursion (λ x. x < 2 ^ 64) row → map value (map decimal row) ≡ row
 row_values [] h = refl
 row_values (x ∷ xs) h =
     let first = decimal_value x h.0 in
     let rest = row_values xs h.1 in
     cc
 
-pub cells_fit : (n : ℕ) (e : Entry) → Fits n e → All (λ x. x < 2 ^ 64) (cells e)
+pub cells_fit : (n : ℕ) (e : Entry) → Fits n e → AllByRecursion (λ x. x < 2 ^ 64) (cells e)
 cells_fit n (opening prices) f = All-weaker (λ x. x < 2 ^ 32) (λ x. x < 2 ^ 64) (λ x h. omega arith) prices f.1
 cells_fit n (offer quantities) f = All-weaker (λ x. x < 2 ^ 8) (λ x. x < 2 ^ 64) (λ x h. omega arith) quantities f.1
 cells_fit n confirmation f = tt

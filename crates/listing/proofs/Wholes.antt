@@ -9,7 +9,7 @@ use Rattle.listing.specs.declared.error.BadLine.{BadLine}
 use Rattle.std.proofs.ByRecursion.{All-append, All-weaker}
 use Rattle.std.proofs.lemmas.List.{length-append, length-set, length-take-le, set-append_left, take-append-drop, take_at}
 use Rattle.std.proofs.lemmas.Bool.{and_parts, cond-false, eqb-false, ne_eqb, not-true}
-use Rattle.std.specs.List.{AllByRecursion as All}
+use Rattle.std.specs.List.{AllByRecursion}
 use Rattle.tape.proofs.Laid.{laid_append, length_laid}
 use Rattle.tape.specs.Format.{Entry, opening, offer, confirmation, withdrawal, closing, reading, Fits, header_bytes, letter}
 use Rattle.tape.specs.Reading.{Fit}
@@ -156,7 +156,7 @@ makes_in_part text before part after room (Err bad) within a m =
 
 -- texts of a line hold no byte 10
 abbrev Unbroken : List ℕ → Type 0
-Unbroken text = All (λ b. b ≡ 10 → ⊥) text
+Unbroken text = AllByRecursion (λ b. b ≡ 10 → ⊥) text
 
 line_taken : (begun text rest : List ℕ) → Unbroken text → lines_from begun (text ++ 10 ∷ rest) ≡ (begun ++ text) ∷ lines rest
 line_taken begun [] rest u = ap (λ l. l ∷ lines rest) (sym (append-nil begun))
@@ -170,7 +170,7 @@ first_line text rest u = ap lines (append_assoc text (10 ∷ []) rest) ∙ line_
 number_unbroken : (n : ℕ) → n < 2 ^ 64 → Unbroken (decimal n)
 number_unbroken n h = All-weaker (λ d. (48 ≤ d) × (d ≤ 57)) (λ b. b ≡ 10 → ⊥) (λ d digit e. omega arith) (decimal n) (decimal_numeral n h).1
 
-row_unbroken : (row : List ℕ) → All (λ x. x < 2 ^ 64) row → Unbroken (row_text row)
+row_unbroken : (row : List ℕ) → AllByRecursion (λ x. x < 2 ^ 64) row → Unbroken (row_text row)
 row_unbroken [] h = tt
 row_unbroken (x ∷ xs) h = (λ e. omega arith, All-append (λ b. b ≡ 10 → ⊥) (decimal x) (row_text xs) (number_unbroken x h.0) (row_unbroken xs h.1))
 
@@ -210,14 +210,14 @@ heading_unbroken b p k small few =
     then (codes " kind ") (kind_name k) (tested_unbroken (codes " kind ") refl) (kind_unbroken k)))))
 
 -- the lines of entries enter them
-entries_entered : (n : ℕ) (es : List Entry) → Fit n → All (Fits n) es → Enter n (lines (entries_text es)) es
+entries_entered : (n : ℕ) (es : List Entry) → Fit n → AllByRecursion (Fits n) es → Enter n (lines (entries_text es)) es
 entries_entered n [] fit fits = refl
 entries_entered n (e ∷ es) fit fits =
     subst (λ ls. Enter n ls (e ∷ es)) (sym (first_line (entry_text e) (entries_text es) (entry_unbroken n e fits.0)))
     (inr (e, es, refl, entry_said n e fit fits.0, entries_entered n es fit fits.1))
 
 -- a listing describes its tape
-pub listing_described : (b p : ℕ) (k : Kind) (es : List Entry) → b < 2 ^ 16 → Fit p → All (Fits p) es → Describe (lines (listing_of b p k es)) b p k es
+pub listing_described : (b p : ℕ) (k : Kind) (es : List Entry) → b < 2 ^ 16 → Fit p → AllByRecursion (Fits p) es → Describe (lines (listing_of b p k es)) b p k es
 listing_described b p k es small fit fits =
     subst (λ ls. Describe ls b p k es) (sym (first_line (heading_text b p k) (entries_text es) (heading_unbroken b p k (omega arith) (omega arith))))
     (inr (heading_said b p k small fit, entries_entered p es fit fits))

@@ -1,7 +1,7 @@
 -- What the words of a line say, and the lines of a text.
 use Rattle.std.specs.Prelude.{◌≡◌, ℕ, ◌+◌, ◌-◌, ◌*◌, ◌^◌, ◌<◌, ◌≤◌, Bool, cond, ◌||◌, ◌⊎◌, List, [], ◌∷◌, ◌++◌, map, length, codes, ◌==◌}
 use Rattle.listing.specs.Text.{cells, kind_name}
-use Rattle.std.specs.List.{AllByRecursion as All}
+use Rattle.std.specs.List.{AllByRecursion}
 use Rattle.tape.specs.Format.{Entry, Fits, letter}
 use Rattle.tape.specs.Reading.{Fit}
 use Rattle.tape.specs.declared.header.Kind.{Kind}
@@ -34,7 +34,7 @@ said line = words (before_comment line)
 
 -- one digit or more, and the number that digits write behind those of n
 abbrev pub Numeral : List ℕ → Type 0
-Numeral word = (0 < length word) × All (λ d. (48 ≤ d) × (d ≤ 57)) word
+Numeral word = (0 < length word) × AllByRecursion (λ d. (48 ≤ d) × (d ≤ 57)) word
 
 abbrev pub value_from : ℕ → List ℕ → ℕ
 value_from n [] = n
@@ -47,7 +47,7 @@ value word = value_from 0 word
 pub record Says (n : ℕ) (ws : List (List ℕ)) (e : Entry) : Type 0 where
   pub numerals : List (List ℕ)
   pub spelled : ws ≡ (letter e ∷ []) ∷ numerals
-  pub written : All Numeral numerals
+  pub written : AllByRecursion Numeral numerals
   pub row : map value numerals ≡ cells e
   pub fit : Fit n
   pub fits : Fits n e

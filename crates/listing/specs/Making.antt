@@ -4,7 +4,7 @@ use Rattle.std.specs.Prelude.{◌≡◌, ℕ, ◌+◌, ◌^◌, ◌<◌, ◌≤�
 use Rattle.listing.specs.Lines.{Describe, Enter, lines, said, SaysHeading}
 use Rattle.listing.specs.Text.{listing_of}
 use Rattle.listing.specs.declared.error.BadLine.{BadLine}
-use Rattle.std.specs.List.{AllByRecursion as All}
+use Rattle.std.specs.List.{AllByRecursion}
 use Rattle.tape.specs.Format.{Entry, entry_bytes, Fits, header_bytes}
 use Rattle.tape.specs.Reading.{Fit}
 use Rattle.tape.specs.Writing.{laid}
@@ -26,7 +26,7 @@ FirstLine text None = lines text ≡ []
 
 -- lines with no words
 abbrev pub Wordless : List (List ℕ) → Type 0
-Wordless ls = All (λ line. said line ≡ []) ls
+Wordless ls = AllByRecursion (λ line. said line ≡ []) ls
 
 -- lines give bytes: none before a heading, and from then on the bytes of the tape that they describe
 abbrev pub Give : List (List ℕ) → List ℕ → Type 0
@@ -110,6 +110,6 @@ WritesLines n first text before at (Err bad) after =
 -- the tape whose listing the text is comes back, where it has room
 abbrev pub GivesBack : List ℕ → List ℕ → Result ℕ BadLine → List ℕ → Type 0
 GivesBack text before r after =
-    (book products : ℕ) (kind : Kind) (es : List Entry) → book < 2 ^ 16 → Fit products → All (Fits products) es → text ≡ listing_of book products kind es
+    (book products : ℕ) (kind : Kind) (es : List Entry) → book < 2 ^ 16 → Fit products → AllByRecursion (Fits products) es → text ≡ listing_of book products kind es
     → length (tape_bytes book products kind es) ≤ 32768 → length (tape_bytes book products kind es) ≤ length before
     → (r ≡ Ok (length (tape_bytes book products kind es))) × (after ≡ laid before 0 (tape_bytes book products kind es))

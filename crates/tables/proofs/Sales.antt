@@ -1,7 +1,7 @@
 -- The rounds of a table are those of a sale: rows of the right length, whose entries fit.
 use Rattle.std.proofs.Common.{◌≡◌, ℕ, suc, ◌^◌, ◌<◌, ◌≤◌, true, ◌&&◌, eqb, ltb, List, [], ◌∷◌, length, get_or, IfSome, Some, None, Option, refl, arith, ltb-true, lt-ltb, eq-eqb}
 use Rattle.std.proofs.lemmas.Bool.{and_from, and_parts, eqb-true}
-use Rattle.std.specs.List.{AllByRecursion as All}
+use Rattle.std.specs.List.{AllByRecursion}
 use Rattle.chains.specs.Rounds.{Round, Package, Sale, offered}
 use Rattle.tables.specs.Changes.{opened, unbid}
 use Rattle.tables.specs.Tables.{each_below, row_fits, bid_fits, rounds_fit}
@@ -33,11 +33,11 @@ module _ (n : ℕ) where
       and_from _ true (and_from (row_fits n (2 ^ 32) r.prices) true (and_parts (row_fits n (2 ^ 32) r.prices) (bid_fits n r.bid) first).0 refl) refl
   unbid_fit (r ∷ (s ∷ rounds)) h = let both = and_parts _ (rounds_fit n (s ∷ rounds)) h in and_from _ _ both.0 (unbid_fit (s ∷ rounds) both.1)
 
-  all_below : (bound : ℕ) (row : List ℕ) → each_below bound row ≡ true → All (λ x. x < bound) row
+  all_below : (bound : ℕ) (row : List ℕ) → each_below bound row ≡ true → AllByRecursion (λ x. x < bound) row
   all_below bound [] h = tt
   all_below bound (x ∷ row) h = let both = and_parts (ltb x bound) (each_below bound row) h in (ltb-true x bound both.0, all_below bound row both.1)
 
-  all_bytes : (row : List ℕ) → each_below 256 row ≡ true → All (λ x. x ≤ 255) row
+  all_bytes : (row : List ℕ) → each_below 256 row ≡ true → AllByRecursion (λ x. x ≤ 255) row
   all_bytes [] h = tt
   all_bytes (x ∷ row) h = let both = and_parts (ltb x 256) (each_below 256 row) h in let l = ltb-true x 256 both.0 in (omega arith, all_bytes row both.1)
 

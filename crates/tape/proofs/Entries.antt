@@ -2,7 +2,7 @@
 use Rattle.std.proofs.Common.{◌≡◌, ℕ, ◌+◌, ◌-◌, ◌*◌, ◌/◌, ◌%◌, ◌^◌, ◌<◌, cond, eqb, List, [], ◌∷◌, ◌++◌, length, take, drop, replicate, Some, None, Ok, Err, Option, Result, sym, refl, ap, ◌∙◌, arith, length-append, Bor}
 use native.Mathlib.Nat.{div-div-eq-div-mul}
 use Rattle.std.proofs.lemmas.List.{take_at, drop_at}
-use Rattle.std.specs.List.{AllByRecursion as All}
+use Rattle.std.specs.List.{AllByRecursion}
 use Rattle.tape.proofs.Rows.{length_price_bytes}
 use Rattle.tape.specs.Format.{Entry, opening, offer, confirmation, withdrawal, closing, reading, Fits, letter, price_bytes, row_bytes, entry_bytes, row_length, entry_of, record_of}
 use Rattle.tape.specs.Reading.{Behind, Fit, Reads, SameBytes, EntryBack}
@@ -41,7 +41,7 @@ be32_value p h =
     let third : p / 16777216 ≡ p / 256 / 256 / 256 = sym (div-div-eq-div-mul p 256 65536) ∙ sym (div-div-eq-div-mul (p / 256) 256 256) in
     rw (second, third) (omega (arith, q1, q2, q3, q4))
 
-prices_back : (prices : List ℕ) → All (λ p. p < 2 ^ 32) prices → prices_in (price_bytes prices) ≡ prices
+prices_back : (prices : List ℕ) → AllByRecursion (λ p. p < 2 ^ 32) prices → prices_in (price_bytes prices) ≡ prices
 prices_back [] h = refl
 prices_back (p ∷ ps) h =
     let e = be32_value p h.0 in

@@ -3,14 +3,14 @@ use Rattle.std.proofs.Common.{◌≡◌, ℕ, suc, ◌+◌, ◌-◌, ◌*◌, �
 use Rattle.std.proofs.ByRecursion.{All-push}
 use Rattle.std.proofs.lemmas.List.{drop_more, set_at, take_all}
 use Rattle.std.proofs.lemmas.Bool.{cases_lt}
-use Rattle.std.specs.List.{AllByRecursion as All}
+use Rattle.std.specs.List.{AllByRecursion}
 use Rattle.tape.specs.Format.{be32, price_bytes, padded}
 
 -- a row of n numbers of so many bits was read off the front of t into 16 cells
 pub record RowRead (bits n : ℕ) (bytes : List ℕ → List ℕ) (t cells rest : List ℕ) : Type 0 where
   pub row : List ℕ
   pub many : length row ≡ n
-  pub small : All (λ x. x < 2 ^ bits) row
+  pub small : AllByRecursion (λ x. x < 2 ^ bits) row
   pub filled : cells ≡ padded row
   pub front : t ≡ bytes row ++ rest
 

@@ -1,6 +1,6 @@
 -- The byte format of a tape: what stands for what.
 use Rattle.std.specs.Prelude.{◌≡◌, ℕ, ◌-◌, ◌*◌, ◌/◌, ◌%◌, ◌^◌, ◌<◌, cond, List, [], ◌∷◌, ◌++◌, length, take, replicate, Some, None, Option, ◌==◌, ◌≢◌}
-use Rattle.std.specs.List.{AllByRecursion as All}
+use Rattle.std.specs.List.{AllByRecursion}
 use Rattle.tape.specs.declared.error.TapeError.{TapeError}
 use Rattle.tape.specs.declared.error.TapeError.TheVariants.{TooLong, BadHeader, UnknownLetter, CutOff}
 use Rattle.tape.specs.declared.header.Kind.{Kind}
@@ -62,8 +62,8 @@ record_of reading = Sheet
 
 -- an entry that a tape of n products can hold: a row has n prices of 32 bits, or n quantities of 8 bits
 abbrev pub Fits : ℕ → Entry → Type 0
-Fits n (opening prices) = (length prices ≡ n) × All (λ p. p < 2 ^ 32) prices
-Fits n (offer quantities) = (length quantities ≡ n) × All (λ q. q < 2 ^ 8) quantities
+Fits n (opening prices) = (length prices ≡ n) × AllByRecursion (λ p. p < 2 ^ 32) prices
+Fits n (offer quantities) = (length quantities ≡ n) × AllByRecursion (λ q. q < 2 ^ 8) quantities
 Fits n confirmation = Unit {0}
 Fits n withdrawal = Unit {0}
 Fits n closing = Unit {0}

@@ -4,7 +4,7 @@ use Rattle.listing.specs.Lines.{value_from}
 use Rattle.std.proofs.ByRecursion.{All-get_or, All-more}
 use Rattle.std.proofs.lemmas.List.{drop_all, take_all}
 use Rattle.std.proofs.lemmas.Bool.{eqb-false}
-use Rattle.std.specs.List.{AllByRecursion as All}
+use Rattle.std.specs.List.{AllByRecursion}
 use Rattle.listing.proofs.words.read_number.Goals as goal
 
 pub returns-then-digit-lt48 : goal.returns-then-digit-lt48
@@ -31,5 +31,5 @@ returns c =
     let word = c.args.word.now in
     let i = c.loop-i.i in
     let none = eqb-false (length word) 0 (sym c.if-is_empty.ensures) in
-    let digits = subst (All (λ d. (48 ≤ d) × (d ≤ 57))) (take_all i word (omega arith)) c.loop-i.invariant.0 in
+    let digits = subst (AllByRecursion (λ d. (48 ≤ d) × (d ≤ 57))) (take_all i word (omega arith)) c.loop-i.invariant.0 in
     ((omega arith, digits), c.loop-i.invariant.1 ∙ ap (value_from c.loop-i.n) (drop_all i word (omega arith)), c.loop-i.invariant.2)
