@@ -14,7 +14,7 @@ use Rattle.paths.proofs.Enter.{inner_known}
 use Rattle.paths.specs.Bids.{StoodIn, New}
 use Rattle.paths.specs.Counts.{tally}
 use Rattle.paths.specs.Graph as by_place
-use Rattle.paths.specs.Route as by-place-route
+use Rattle.paths.specs.Route as by_place_route
 use Rattle.paths.specs.Searching.{State, SmallSteps}
 use Rattle.paths.specs.Weighs.{IsHeldAt, IsAround}
 use Rattle.paths.specs.declared.Step.{Step}
@@ -23,7 +23,7 @@ use Rattle.worth.specs.Group.{Group, Laws}
 -- a chain of places, in the numbers that a merchant sees
 module _ (G : Group) (R : List Round) where
   abbrev StepsByPlace : ℕ → List Step → ℕ → Type 0
-  StepsByPlace = by-place-route.Leads G (graph_of G R) (StoodIn (bids_of R))
+  StepsByPlace = by_place_route.Leads G (graph_of G R) (StoodIn (bids_of R))
 
   less_one : (k : ℕ) → k + 1 - 1 ≡ k
   less_one k = omega arith
@@ -46,22 +46,22 @@ module _ (G : Group) (R : List Round) where
         leads_in_numbers l.to y ls h.4,
       )
 
-  avoids_in_numbers : (a : ℕ) (ls : List Step) → by-place-route.Avoids a ls → by-place-route.Avoids (a + 1) (map in_numbers ls)
+  avoids_in_numbers : (a : ℕ) (ls : List Step) → by_place_route.Avoids a ls → by_place_route.Avoids (a + 1) (map in_numbers ls)
   avoids_in_numbers a [] h = tt
   avoids_in_numbers a (l ∷ ls) h = ((λ e. h.0 (omega arith)), avoids_in_numbers a ls h.1)
 
-  apart_in_numbers : (ls : List Step) → by-place-route.Apart ls → by-place-route.Apart (map in_numbers ls)
+  apart_in_numbers : (ls : List Step) → by_place_route.Apart ls → by_place_route.Apart (map in_numbers ls)
   apart_in_numbers [] h = tt
   apart_in_numbers (l ∷ ls) h = (avoids_in_numbers l.from ls h.0, apart_in_numbers ls h.1)
 
-  first_in_numbers : (t : ℕ) (ls : List Step) → by-place-route.First t ls → by-place-route.First (t + 1) (map in_numbers ls)
+  first_in_numbers : (t : ℕ) (ls : List Step) → by_place_route.First t ls → by_place_route.First (t + 1) (map in_numbers ls)
   first_in_numbers t [] h = h
   first_in_numbers t (l ∷ ls) h = ap (λ k. k + 1) h
 
-  worth_in_numbers : (l : Step) → worth_of G R (in_numbers l) ≡ by-place-route.value_of G (graph_of G R) l
+  worth_in_numbers : (l : Step) → worth_of G R (in_numbers l) ≡ by_place_route.value_of G (graph_of G R) l
   worth_in_numbers l = rw (less_one l.from, less_one l.to, less_one l.round) refl
 
-  sum_in_numbers : (ls : List Step) → chain_sum G R (map in_numbers ls) ≡ by-place-route.sum_of G (graph_of G R) ls
+  sum_in_numbers : (ls : List Step) → chain_sum G R (map in_numbers ls) ≡ by_place_route.sum_of G (graph_of G R) ls
   sum_in_numbers [] = refl
   sum_in_numbers (l ∷ ls) = rw (worth_in_numbers l, sum_in_numbers ls) refl
 
@@ -87,15 +87,15 @@ module _ (G : Group) (L : Laws G) (R : List Round) (row : List ℕ) (t : ℕ) (l
           let w = explained_by_place R' G e in
           around.none (w.0, λ s a b new on other. w.1 s a b (there.stood s a new) on other)
 
-    pub forbids : (ls : List Step) → by-place-route.Route G N (New (Earlier R') x t) x t ls → Forbids G R' (x + 1) (map in_numbers ls)
+    pub forbids : (ls : List Step) → by_place_route.Route G N (New (Earlier R') x t) x t ls → Forbids G R' (x + 1) (map in_numbers ls)
     forbids ls route = record {
-      first = subst (λ k. by-place-route.First k (map in_numbers ls)) (latest ∙ sym (offered_long R row)) (first_in_numbers G R' t ls route.first);
+      first = subst (λ k. by_place_route.First k (map in_numbers ls)) (latest ∙ sym (offered_long R row)) (first_in_numbers G R' t ls route.first);
       around = leads_in_numbers G R' x x ls (leads_there x ls route.leads);
       apart = apart_in_numbers G R' ls route.apart;
       falls = rw (sum_in_numbers G R' ls) route.falls;
     }
       where
-        leads_there : (y : ℕ) (ls : List Step) → by-place-route.Leads G N (New (Earlier R') x t) y ls x → StepsByPlace G R' y ls x
+        leads_there : (y : ℕ) (ls : List Step) → by_place_route.Leads G N (New (Earlier R') x t) y ls x → StepsByPlace G R' y ls x
         leads_there y [] h = h
         leads_there y (l ∷ ls) h = (h.0, there.stood l.round l.from h.1, h.2, h.3, leads_there l.to ls h.4)
 
@@ -127,8 +127,8 @@ module _ (G : Group) (L : Laws G) (R : List Round) (row : List ℕ) (t : ℕ) (l
         ]
 
         pub held_moved : Moved G R R' moved
-        held_moved e f inner-e inner-f = over_roll ∙ tally_same fell (λ y. G.less (f y) (e y)) (length (roll R)) (λ y on.
-            let before : d y ≡ e y = (chain_laws G L R).unique (package_at R y) (d y) (e y) (inner y on) (inner-e y on) in
+        held_moved e f inner_e inner_f = over_roll ∙ tally_same fell (λ y. G.less (f y) (e y)) (length (roll R)) (λ y on.
+            let before : d y ≡ e y = (chain_laws G L R).unique (package_at R y) (d y) (e y) (inner y on) (inner_e y on) in
             let here = subst (λ p. Inner G R' p (st.dist y)) (same_package R row t latest free enrols y on) (held_inner y (omega (arith, no_shorter R row t latest free enrols))) in
-            let after : st.dist y ≡ f y = (chain_laws G L R').unique (package_at R y) (st.dist y) (f y) here (inner-f y on) in
+            let after : st.dist y ≡ f y = (chain_laws G L R').unique (package_at R y) (st.dist y) (f y) here (inner_f y on) in
             ap (λ u. G.less (st.dist y) u) before ∙ ap (λ u. G.less u (e y)) after)

@@ -62,25 +62,25 @@ module _ {X : Type 0} (L : X → X → Type 0) where
       )
 
   -- the last in the place of the first
-  pub sink_last : (xs ys : List X) (n m : ℕ) → length xs ≡ n + 1 → m ≡ n → ys ≡ swap xs 0 n → length ys ≡ length xs → Heap L xs → Sinking L (take m ys) 0
-  sink_last xs ys n m long e is len h d =
+  pub sink_last : (xs ys : List X) (n : ℕ) → length xs ≡ n + 1 → ys ≡ swap xs 0 n → length ys ≡ length xs → Heap L xs → Sinking L (take n ys) 0
+  sink_last xs ys n long is len h d =
       let s = swapped_from_swap xs ys 0 n d (omega arith) (omega arith) is in
-      let short : length (take m ys) ≡ n = length-take-le m ys (omega arith) ∙ e in (
-        λ k a b ne. by (get_or-take m ys (parent k) d (omega arith) ∙ s.2 (parent k) ne (omega arith)) (get_or-take m ys k d (omega arith) ∙ s.2 k (omega arith) (omega arith)) (h d k a (omega arith)),
+      let short : length (take n ys) ≡ n = length-take-le n ys (omega arith) in (
+        λ k a b ne. by (get_or-take n ys (parent k) d (omega arith) ∙ s.2 (parent k) ne (omega arith)) (get_or-take n ys k d (omega arith) ∙ s.2 k (omega arith) (omega arith)) (h d k a (omega arith)),
         λ k up a b z. absurd (omega arith),
       )
 
 module _ {X : Type 0} where
   -- the first is out, and what is left is in some order
-  pub popped : (xs ys ts : List X) (x : X) (n m : ℕ) → length xs ≡ n + 1 → m ≡ n → ys ≡ swap xs 0 n → length ys ≡ length xs → x ≡ get_or xs 0 x → IsPermutation xs ys → IsPermutation (take m ys) ts → IsPermutation xs (x ∷ ts)
-  popped xs ys ts x n m long e is len first s t =
+  pub popped : (xs ys ts : List X) (x : X) (n : ℕ) → length xs ≡ n + 1 → ys ≡ swap xs 0 n → length ys ≡ length xs → x ≡ get_or xs 0 x → IsPermutation xs ys → IsPermutation (take n ys) ts → IsPermutation xs (x ∷ ts)
+  popped xs ys ts x n long is len first s t =
       let w = swapped_from_swap xs ys 0 n x (omega arith) (omega arith) is in
-      let last : get_or ys m x ≡ x = ap (λ i. get_or ys i x) e ∙ w.1 ∙ sym first in
-      let whole : ys ≡ take m ys ++ x ∷ [] = sym (take_all (m + 1) ys (omega arith)) ∙ take_more ys m x (omega arith) ∙ ap (λ y. take m ys ++ y ∷ []) last in
+      let last : get_or ys n x ≡ x = w.1 ∙ sym first in
+      let whole : ys ≡ take n ys ++ x ∷ [] = sym (take_all (n + 1) ys (omega arith)) ∙ take_more ys n x (omega arith) ∙ ap (λ y. take n ys ++ y ∷ []) last in
       let P : List X → Type 0 = IsPermutation xs in
-      IsPermutation-trans xs (take m ys ++ x ∷ []) (x ∷ ts) (subst P whole s)
-      (IsPermutation-trans (take m ys ++ x ∷ []) (x ∷ take m ys) (x ∷ ts) (IsPermutation-to_front (take m ys) x) (IsPermutation-cons x (take m ys) ts t))
+      IsPermutation-trans xs (take n ys ++ x ∷ []) (x ∷ ts) (subst P whole s)
+      (IsPermutation-trans (take n ys ++ x ∷ []) (x ∷ take n ys) (x ∷ ts) (IsPermutation-to_front (take n ys) x) (IsPermutation-cons x (take n ys) ts t))
 
   -- the part before what was not lent
-  pub taken_back : (ts rest : List X) (us : List X) (n m : ℕ) → n ≡ m → IsPermutation (take m us) ts → m ≤ length us → take n (ts ++ rest) ≡ ts
-  taken_back ts rest us n m e s le = take_at ts rest n (length_permutation (take m us) ts s ∙ length-take-le m us le ∙ sym e)
+  pub taken_back : (ts rest : List X) (us : List X) (n : ℕ) → IsPermutation (take n us) ts → n ≤ length us → take n (ts ++ rest) ≡ ts
+  taken_back ts rest us n s le = take_at ts rest n (length_permutation (take n us) ts s ∙ length-take-le n us le)

@@ -23,8 +23,8 @@ module _ (G : Group) (L : Laws G) where
   -- what lower worths keep
   module _ (N : Graph G) (st st' : State G) (l : Lower G st st') where
     pub lower_floor : (d : ℕ → G.Carrier) (x a s : ℕ) → 0 < st.turn a → Floor G N d x st a s → Floor G N d x st' a s
-    lower_floor d x a s a_done f z w z_on w_on ne z-done other =
-        let z_was : 0 < st.turn z = rw (← l.turns z) z-done in
+    lower_floor d x a s a_done f z w z_on w_on ne z_done other =
+        let z_was : 0 < st.turn z = rw (← l.turns z) z_done in
         rw (l.done z z_was, l.done a a_done) (f z w z_on w_on ne z_was other)
 
     pub lower_met : (a s : ℕ) → 0 < st.turn a → Met G N st a s → Met G N st' a s

@@ -63,8 +63,8 @@ module _ (G : Group) (L : Laws G) (N : Graph G) (Stood : ℕ → ℕ → Type 0)
   ]
 
   -- what is left without a loop is no more
-  loop-out : (whole before after last s : Carrier) → whole ≡ before ⊕ after → AtMost G whole s → AtMost G zero (after ⊕ last) → AtMost G before (s ⊕ last)
-  loop-out whole before after last s e h k = follows G L (add_le G L h k) (rw e (simp plain))
+  loop_out : (whole before after last s : Carrier) → whole ≡ before ⊕ after → AtMost G whole s → AtMost G zero (after ⊕ last) → AtMost G before (s ⊕ last)
+  loop_out whole before after last s e h k = follows G L (add_le G L h k) (rw e (simp plain))
 
   module _ (w : ℕ → Carrier) (ex : Explains G N Stood w) where
     -- a simple chain with the same ends, and no greater sum
@@ -80,7 +80,7 @@ module _ (G : Group) (L : Laws G) (N : Graph G) (Stood : ℕ → ℕ → Type 0)
       | inl m ↦
           let k = cut z r.short m in
           let loop = around_up G L N Stood w ex (onward k.rest stood on other) in
-          record { nodes = k.nodes; sum = k.before; short = k.short; low = loop-out _ _ _ _ _ k.whole r.low loop }
+          record { nodes = k.nodes; sum = k.before; short = k.short; low = loop_out _ _ _ _ _ k.whole r.low loop }
       | inr m ↦ record {
         nodes = z ∷ r.nodes;
         sum = r.sum ⊕ step y z t;

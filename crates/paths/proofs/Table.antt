@@ -280,5 +280,5 @@ told_finite bids = record {
   where
     go : (t a : ℕ) → Dec (t < bids.rounds) → (bids.test t a ≡ true) ⊎ (bids.test t a ≡ false) → Dec (StoodIn bids t a)
     go t a (no n) b = no (λ h. n h.0)
-    go t a (yes early) (inl true-is) = yes (early, true-is)
-    go t a (yes early) (inr false-is) = no (λ h. both_ways _ false-is h.1)
+    go t a (yes early) (inl true_is) = yes (early, true_is)
+    go t a (yes early) (inr false_is) = no (λ h. both_ways _ false_is h.1)

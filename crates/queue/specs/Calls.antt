@@ -1,12 +1,13 @@
 -- What each call promises. The promises about what waits rest on a queue that is sound, as every queue is that was
 -- made by `new` and changed by these calls alone.
-use Rattle.std.specs.Prelude.{◌≡◌, ℕ, ◌+◌, ◌<◌, ◌≤◌, true, false, List, drop, is_some, Some, None, ◌==◌, ◌≢◌}
+use Rattle.std.specs.Prelude.{◌≡◌, ℕ, ◌+◌, ◌<◌, ◌≤◌, true, false, List, drop, is_some, Some, None, Result, ◌==◌, ◌≢◌}
 use Rattle.worth.specs.Group.{Group}
 use Rattle.worth.specs.Says.{AtMost}
 use Rattle.queue.specs.Contents.{memory, room, count, key_of}
 use Rattle.queue.specs.Order.{Sound}
 use Rattle.queue.specs.Answers.{answer_of, outcome}
 use Rattle.queue.specs.declared.Entry.{Entry}
+use Rattle.queue.specs.declared.Full.{Full}
 use Rattle.queue.specs.declared.Put.{Put}
 use Rattle.queue.specs.declared.Queue.{Queue}
 
@@ -27,7 +28,7 @@ module _ (G : Group) {W : Type 0} (m : W → G.Carrier) where
     pub sound : Sound G m q
 
   -- What `put` does in a sound queue to the package p, which is put in with a new key.
-  pub record Stored (before : Queue W) (p : ℕ) (new : W) (r : Put) (after : Queue W) : Type 0 where
+  pub record Stored (before : Queue W) (p : ℕ) (new : W) (r : Result Put Full) (after : Queue W) : Type 0 where
     pub sound : Sound G m after
     pub key : key_of after p ≡ (outcome r (key_of before p) new).key
     pub others : Others before p after
@@ -35,7 +36,7 @@ module _ (G : Group) {W : Type 0} (m : W → G.Carrier) where
     pub enough : (n : ℕ) → n ≤ room before → p < n → ((q : ℕ) → is_some (key_of before q) ≡ true → q < n) → (outcome r (key_of before p) new).waits ≡ true
 
   -- What `put` does in any queue.
-  pub record PutIn (before : Queue W) (p : ℕ) (new : W) (r : Put) (after : Queue W) : Type 0 where
+  pub record PutIn (before : Queue W) (p : ℕ) (new : W) (r : Result Put Full) (after : Queue W) : Type 0 where
     pub answer : r ≡ answer_of G m (key_of before p) new (count before == room before)
     pub same : (outcome r (key_of before p) new).changed ≡ false → after ≡ before
     pub past : Past (count after) before after

@@ -1,5 +1,5 @@
 -- What a queue holds.
-use Rattle.std.specs.Prelude.{ℕ, min, List, length, take, Option}
+use Rattle.std.specs.Prelude.{ℕ, List, length, take, Option}
 use Rattle.heaps.specs.Found.{found}
 use Rattle.queue.specs.declared.Entry.{Entry}
 use Rattle.queue.specs.declared.Queue.{Queue}
@@ -19,7 +19,7 @@ module _ {W : Type 0} where
 
   -- how many packages wait
   abbrev pub count : Queue W → ℕ
-  count q = min q.len (room q)
+  count q = q.len
 
   -- the key with which the package p waits, if it does
   abbrev pub key_of : Queue W → ℕ → Option W

@@ -1,5 +1,5 @@
 -- In which order packages come out.
-use Rattle.std.specs.Prelude.{◌≡◌, Bool, true, false, cond, nat_lt}
+use Rattle.std.specs.Prelude.{◌≡◌, Bool, true, false, cond, nat_lt, List}
 use Rattle.worth.specs.Group.{Group}
 use Rattle.worth.specs.Says.{less_of}
 use Rattle.heaps.specs.Heap.{Heap}
@@ -18,9 +18,13 @@ module _ (G : Group) {W : Type 0} (m : W → G.Carrier) where
   abbrev pub Over : Entry W → Entry W → Type 0
   Over a b = ahead_of b a ≡ false
 
+  -- entries in the places of a heap
+  abbrev pub Heaped : List (Entry W) → Type 0
+  Heaped es = Heap Over es
+
   -- What a new queue is, and what calls keep.
   pub record Sound (q : Queue W) : Type 0 where
     -- the entries are a heap
-    pub heap : Heap Over (waiting q)
+    pub heap : Heaped (waiting q)
     -- no package waits twice
     pub apart : Apart (λ e. e.«package») (waiting q)

@@ -1,13 +1,14 @@
 -- Two packages in, and both out.
-use Rattle.std.proofs.Common.{◌≡◌, ℕ, ◌≤◌, true, false, cond, ◌⊎◌, List, length, is_some, Some, None, sym, ap, ◌∙◌, inl, inr, ⊎_elim, arith}
+use Rattle.std.proofs.Common.{◌≡◌, ℕ, true, false, cond, ◌⊎◌, List, is_some, Some, None, Ok, Result, sym, ap, ◌∙◌, inl, inr, ⊎_elim, arith}
 use Rattle.std.proofs.lemmas.Bool.{both_ways, cases_eq}
 use Rattle.worth.specs.Group.{Group, Laws}
 use Rattle.worth.specs.Says.{less_of}
 use Rattle.worth.proofs.Orders.{lt_or_eq}
-use Rattle.queue.specs.Contents.{room, count, key_of}
+use Rattle.queue.specs.Contents.{count, key_of}
 use Rattle.queue.specs.Calls.{Made, PutIn, First, TakenOut}
 use Rattle.queue.specs.Order.{Sound}
 use Rattle.queue.specs.declared.Entry.{Entry}
+use Rattle.queue.specs.declared.Full.{Full}
 use Rattle.queue.specs.declared.Put.{Put}
 use Rattle.queue.specs.declared.Queue.{Queue}
 use Rattle.queue.proofs.Uses.{put_new}
@@ -22,13 +23,12 @@ module _ (G : Group) (L : Laws G) {W : Type 0} (m : W → G.Carrier) (one two : 
     pub others : (p : ℕ) → (p ≡ 1 → ⊥) → (p ≡ 2 → ⊥) → key_of q p ≡ None
     pub sound : Sound G m q
 
-  pub both : (mem : List (Entry W)) (made between after : Queue W) (r s : Put) → 2 ≤ length mem → Made G m mem made → PutIn G m made 1 one r between → PutIn G m between 2 two s after → Both after
-  both mem made between after r s long new p q =
-      let fits : room made ≡ length mem = ap length new.same in
-      let fst = put_new G m made 1 one r between p (new.none 1) (omega (arith, new.count)) in
+  pub both : (mem : List (Entry W)) (made between after : Queue W) (r s : Result Put Full) (x y : Put) → r ≡ Ok x → s ≡ Ok y → Made G m mem made → PutIn G m made 1 one r between → PutIn G m between 2 two s after → Both after
+  both mem made between after r s x y in_one in_two new p q =
+      let fst = put_new G m made 1 one r between p (new.none 1) x in_one in
       let one' = fst.stored new.sound in
       let out : key_of between 2 ≡ None = one'.others 2 (omega arith) ∙ new.none 2 in
-      let snd = put_new G m between 2 two s after q out (omega (arith, new.count, fst.count, fst.room)) in
+      let snd = put_new G m between 2 two s after q out y in_two in
       let two' = snd.stored one'.sound in
       record {
         first = two'.others 1 (omega arith) ∙ one'.key;

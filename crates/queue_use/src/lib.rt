@@ -20,8 +20,8 @@ pub fn in_order<W: OrderedWorth>(memory: &mut [Entry<W>], one: W, two: W) -> Opt
         return None;
     }
     let mut queue = Queue::new(memory);
-    let _ = queue.put(1, one);
-    let _ = queue.put(2, two);
+    queue.put(1, one).ok()?;
+    queue.put(2, two).ok()?;
     let first = queue.take()?;
     let second = queue.take()?;
     Some((first.package, second.package))
@@ -32,9 +32,7 @@ pub fn drain<W: OrderedWorth>(queue: &mut Queue<W>) -> usize
     ensures value { result ≡ count queue.old }
     ensures none { (p : ℕ) → key_of queue.new p ≡ None }
 {
-    let mut n = 0;
-    while let Some(_) = queue.take() {
-        n += 1;
-    }
-    n
+    let waiting = queue.len();
+    while queue.take().is_some() {}
+    waiting
 }

@@ -1,5 +1,5 @@
 use super::*;
-use queue::Put;
+use queue::{Full, Put};
 use std::test::Fail;
 use worth::{PlainMoney, StrictMoney};
 
@@ -49,10 +49,10 @@ fn a_smaller_key_moves_a_package_up(rt: HostRuntime) -> Result<(), Fail> {
         key: plain(0),
     }; 3];
     let mut queue = Queue::new(&mut memory);
-    assert_eq!(rt; queue.put(7, plain(5)), Put::Added);
-    assert_eq!(rt; queue.put(3, plain(6)), Put::Added);
-    assert_eq!(rt; queue.put(7, plain(8)), Put::Kept);
-    assert_eq!(rt; queue.put(3, plain(2)), Put::Lowered);
+    assert_eq!(rt; queue.put(7, plain(5)), Ok(Put::Added));
+    assert_eq!(rt; queue.put(3, plain(6)), Ok(Put::Added));
+    assert_eq!(rt; queue.put(7, plain(8)), Ok(Put::Kept));
+    assert_eq!(rt; queue.put(3, plain(2)), Ok(Put::Lowered));
     let first = queue.take().ok_or("empty")?;
     assert_eq!(rt; first.package, 3);
     assert_eq!(rt; first.key.value, 2);
@@ -68,8 +68,8 @@ fn full_and_empty(rt: HostRuntime) -> Result<(), Fail> {
     }; 1];
     let mut queue = Queue::new(&mut memory);
     assert!(rt; queue.is_empty() && queue.take().is_none());
-    assert_eq!(rt; queue.put(8, strict(1, 1)), Put::Added);
-    assert_eq!(rt; queue.put(2, strict(0, 0)), Put::Full);
+    assert_eq!(rt; queue.put(8, strict(1, 1)), Ok(Put::Added));
+    assert_eq!(rt; queue.put(2, strict(0, 0)), Err(Full));
     assert_eq!(rt; queue.len(), 1);
     assert_eq!(rt; queue.take().ok_or("empty")?.package, 8);
     assert!(rt; queue.take().is_none());

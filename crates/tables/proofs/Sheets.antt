@@ -1,6 +1,6 @@
 -- The rise and the sheet, from the inner worths.
-use Rattle.std.proofs.Common.{◌≡◌, ℕ, ◌+◌, ◌*◌, ◌^◌, ◌<◌, ◌≤◌, List, [], map, length, get_or, take, drop, set, Some, None, Option, sym, ap, ◌∙◌, subst, inl, inr, arith, get_or-set_other, get_or-set_same}
-use Rattle.std.proofs.lemmas.List.{drop-drop, drop-set-lt, get_or-map, get_or_read, get_or-take, length-map, length-take-le, nil_from_length}
+use Rattle.std.proofs.Common.{◌≡◌, ℕ, ◌+◌, ◌*◌, ◌^◌, ◌<◌, ◌≤◌, List, map, length, get_or, take, Some, None, Option, sym, ap, ◌∙◌, subst, inl, inr, arith}
+use Rattle.std.proofs.lemmas.List.{get_or-map, get_or-take, length-map, length-take-le, nil_from_length}
 use Rattle.std.proofs.lemmas.Bool.{cases_Bool, cases_eq, cases_lt}
 use Rattle.chains.proofs.Places.{stood_before}
 use Rattle.chains.proofs.Rolls.{place_listed, roll_stood}
@@ -8,7 +8,7 @@ use Rattle.chains.specs.Chains.{EndsAt, Inner}
 use Rattle.chains.specs.Places.{package_at}
 use Rattle.chains.specs.Rounds.{Round, Stood, roll}
 use Rattle.chains.specs.Sheet.{paid, Sheet}
-use Rattle.tables.proofs.Views.{some_same}
+use Rattle.std.proofs.lemmas.Option.{same_Some}
 use Rattle.tables.specs.Known.{worths, Known, larger_of, Lead, LeadAt, GreatestLead, RiseIs}
 use Rattle.worth.proofs.Leasts.{least_unique}
 use Rattle.worth.proofs.Orders.{le_of_eq, le_trans, lt_to_le}
@@ -24,7 +24,7 @@ module _ (G : Group) (L : Laws G) {X : Type 0} (m : X → G.Carrier) (rounds : L
   -- a round has one lead
   lead_unique : (t : ℕ) (v w : Carrier) → Lead G m rounds t v → Lead G m rounds t w → v ≡ w
   lead_unique t v w a b =
-      let one : a.0 ≡ b.0 = some_same (sym a.2 ∙ b.2) in
+      let one : a.0 ≡ b.0 = same_Some a.0 b.0 (sym a.2 ∙ b.2) in
       let there = subst (λ x. Inner G rounds x a.1) one a.3 in
       let inner : a.1 ≡ b.1 = least_unique G L (EndsAt G rounds b.0) a.1 b.1 there b.3 in
       a.4 ∙ ap (λ x. paid G rounds t x ⊕ ⊖ a.1) one ∙ ap (λ g. paid G rounds t b.0 ⊕ ⊖ g) inner ∙ sym b.4
@@ -138,24 +138,7 @@ module _ (G : Group) (L : Laws G) {X : Type 0} (m : X → G.Carrier) (rounds : L
         let inner = ap size (read y h) in
         omega (arith, L.size_add (worths G m values y) (m r), parts.0, parts.1)
 
-  -- over no standing bid the sheet is empty
-  pub sheet_empty : roll rounds ≡ [] → Sheet G rounds []
-  sheet_empty none = record { long = sym (ap length none); worths = λ y h. absurd (omega arith) }
-
 -- values with the same added, written one after the other
 module _ (G : Group) {X : Type 0} (m : X → G.Carrier) where
   abbrev pub Sums : List X → X → List X → ℕ → Type 0
   Sums values more out n = (j : ℕ) (d : X) → j < n → ExactSum G m (get_or values j d) more (get_or out j d)
-
-  pub sums_more : (values out : List X) (more x v : X) (k : ℕ) → k < length values → k < length out → x ≡ get_or values k x → ExactSum G m x more v
-      → Sums values more out k → Sums values more (set out k v) (k + 1)
-  sums_more values out more x v k lv lo read exact before j d l = elim (cases_eq j k) [
-    | inl e ↦ subst (λ i. ExactSum G m (get_or values i d) more (get_or (set out k v) i d)) (sym e)
-        (subst (λ u. ExactSum G m u more (get_or (set out k v) k d)) (get_or_read values k x lv read d)
-        (subst (λ w. ExactSum G m x more w) (sym (get_or-set_same out k v d lo)) exact))
-    | inr ne ↦ subst (λ w. ExactSum G m (get_or values j d) more w) (sym (get_or-set_other out k j v d ne)) (before j d (omega arith))
-  ]
-
--- what lies past the place just written
-pub rest_kept : {X : Type 0} (out start : List X) (k : ℕ) (v : X) → drop k out ≡ drop k start → drop (k + 1) (set out k v) ≡ drop (k + 1) start
-rest_kept out start k v e = drop-set-lt (k + 1) out k v (omega arith) ∙ sym (drop-drop 1 k out) ∙ ap (drop 1) e ∙ drop-drop 1 k start

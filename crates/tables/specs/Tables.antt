@@ -3,6 +3,7 @@ use Rattle.std.specs.Prelude.{◌≡◌, ℕ, ◌^◌, ◌<◌, Bool, true, ◌&
 use Rattle.std.specs.List.{range_with_len}
 use Rattle.std.specs.Option.{option_map}
 use Rattle.chains.specs.Rounds.{Round}
+use Rattle.tables.specs.declared.table.Round.{Round as Played}
 
 -- the package at place a of a table
 abbrev pub row_at : ℕ → List (List ℕ) → ℕ → List ℕ
@@ -17,13 +18,25 @@ abbrev pub Found : ℕ → List (List ℕ) → ℕ → List ℕ → Option ℕ �
 Found n rows k x (Some a) = (a < k) × (row_at n rows a ≡ x)
 Found n rows k x None = (a : ℕ) → a < k → row_at n rows a ≢ x
 
+-- what is kept of a round that was not played
+abbrev pub blank : Played
+blank = record { prices = []; bid = None }
+
+-- the cells of the prices of round t
+abbrev pub prices_of : List Played → ℕ → List ℕ
+prices_of played t = (slice_index_or played t blank).prices
+
+-- the place of the package that was bid in round t, if any
+abbrev pub bid_of : List Played → ℕ → Option ℕ
+bid_of played t = (slice_index_or played t blank).bid
+
 -- round t: its prices, and the package that was bid there, if any, by its place
-abbrev pub round_at : ℕ → List (List ℕ) → List (List ℕ) → List (Option ℕ) → ℕ → Round
-round_at n prices rows bids t = record { prices = take n (slice_index_or prices t []); bid = option_map (row_at n rows) (slice_index_or bids t None) }
+abbrev pub round_at : ℕ → List (List ℕ) → List Played → ℕ → Round
+round_at n rows played t = record { prices = take n (prices_of played t); bid = option_map (row_at n rows) (bid_of played t) }
 
 -- the first k rounds
-abbrev pub rounds_of : ℕ → List (List ℕ) → List (List ℕ) → List (Option ℕ) → ℕ → List Round
-rounds_of n prices rows bids k = map (round_at n prices rows bids) (range_with_len 0 k)
+abbrev pub rounds_of : ℕ → List (List ℕ) → List Played → ℕ → List Round
+rounds_of n rows played k = map (round_at n rows played) (range_with_len 0 k)
 
 -- whether each entry of a row is below a bound
 abbrev pub each_below : ℕ → List ℕ → Bool

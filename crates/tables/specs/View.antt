@@ -6,4 +6,4 @@ use Rattle.tables.specs.declared.table.Table.{Table}
 
 -- the rounds of a table
 abbrev pub rounds : Table → List Round
-rounds t = rounds_of t.products t.prices t.rows t.bids t.rounds
+rounds t = rounds_of t.products t.rows t.played t.rounds

@@ -1,24 +1,19 @@
-ghost use Rattle.std.specs.Prelude.{◌≡◌, ◌^◌, ◌≤◌, min, take, pos, ◌-ℤ◌, unsigned_abs};
+ghost use Rattle.std.specs.Prelude.{◌≡◌, ◌^◌, ◌≤◌, take, pos, ◌-ℤ◌, unsigned_abs};
 ghost use Rattle.chains.specs.Rows.{cost};
 ghost use Rattle.chains.specs.Steps.{step_at};
 
 use worth::{OrderedWorth, Worth, difference};
 
-// How many cells of a row count, in a sale of so many products.
-fn cells(products: usize) -> usize
-    ensures { result ≡ min products 16 }
-{
-    products.min(16)
-}
-
 /// What a package costs at a row of prices, in a sale of so many products: a row is the first cells, one a product.
+// Rows are arrays: over slices the bound would need a limit on their length, which arrays have in their type.
 pub fn cost_of(quantities: &[u8; 16], prices: &[u32; 16], products: usize) -> u64
     ensures value { result ≡ cost (take products quantities.now) (take products prices.now) }
     ensures bound { result ≤ 2 ^ 44 }
 {
     let mut sum = 0;
-    for i in 0..cells(products) {
-        sum += quantities[i] as u64 * prices[i] as u64;
+    // With its index: every product counts once, in row order, as the house adds up a cost.
+    for (i, quantity) in quantities[..products.min(16)].iter().enumerate() {
+        sum += *quantity as u64 * prices[i] as u64;
     }
     sum
 }

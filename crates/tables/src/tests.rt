@@ -1,4 +1,4 @@
-use crate::table::Table;
+use crate::table::{BidError, RoundError, Table};
 use worth::PlainMoney;
 
 // Three rounds: the first package stood in the first and the last of them, another one in the second.
@@ -50,8 +50,23 @@ fn a_bid_taken_away_gives_its_place_back(rt: HostRuntime) {
     assert!(rt; table.clear_bid());
     assert_eq!(rt; table.packages(), 2);
     assert!(rt; !table.clear_bid());
-    assert_eq!(rt; table.set_bid(&[1, 1]), Some(2));
-    assert_eq!(rt; table.set_bid(&[1, 1]), None);
+    assert_eq!(rt; table.set_bid(&[1, 1]).ok(), Some(2));
+    assert_eq!(rt; table.set_bid(&[1, 1]).ok(), None);
     assert!(rt; table.clear_bid());
     assert_eq!(rt; table.packages(), 2);
+}
+
+#[test]
+fn a_row_is_refused_for_its_reason(rt: HostRuntime) {
+    let mut table = Table::new(2);
+    assert_eq!(rt; table.set_bid(&[1]), Err(BidError::RowLength));
+    assert_eq!(rt; table.set_bid(&[1, 1]), Err(BidError::NoRound));
+    assert_eq!(rt; table.add_round(&[1]), Err(RoundError::RowLength));
+    for _ in 0..128 {
+        assert_eq!(rt; table.add_round(&[1, 1]), Ok(()));
+    }
+    assert_eq!(rt; table.add_round(&[1]), Err(RoundError::RowLength));
+    assert_eq!(rt; table.add_round(&[1, 1]), Err(RoundError::TooManyRounds));
+    assert_eq!(rt; table.set_bid(&[1, 1]), Ok(0));
+    assert_eq!(rt; table.set_bid(&[1, 1]), Err(BidError::BidStands));
 }

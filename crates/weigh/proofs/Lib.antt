@@ -2,8 +2,10 @@ pub mod Read
 pub mod Queues
 pub mod Turn
 pub mod Bids
-pub mod Starts
 pub mod Traces
 pub mod Entries
+pub mod Room
+pub mod Searches
 pub mod Concludes
 pub mod Barred
+pub mod Runs

@@ -1,58 +1,78 @@
--- Rows of values, read as worths, and the search as it is written.
-use Rattle.std.proofs.Common.{◌≡◌, ℕ, ◌<◌, ◌≢◌, List, map, length, get_or, set, replicate, sym, refl, ap, ◌∙◌, arith, get_or-set_other, get_or-set_same}
-use native.Mathlib.Decide.{dec_lt}
+-- Rows of values and of marks, as they are read, and the search as it is written.
+use Rattle.std.proofs.Common.{◌≡◌, ℕ, ◌<◌, ◌≤◌, ◌≢◌, List, map, length, get_or, set, take, replicate, sym, refl, ap, ◌∙◌, arith, get_or-set_other, get_or-set_same}
+use native.Mathlib.Decide.{ℕ_discrete, dec_lt}
 use lib.ListN.{length-replicate}
 use lib.Seq.{map-set}
-use Rattle.std.proofs.lemmas.List.{length-map, get_or-map, get_or_past, get_or-replicate}
+use Rattle.std.proofs.lemmas.List.{length-map, get_or-map, get_or_past, get_or-replicate, get_or-take, length-take-le}
 use Rattle.paths.specs.Graph.{Graph}
 use Rattle.paths.specs.Searching.{Begun, Finish, Put}
-use Rattle.tables.specs.Known.{worths}
 use Rattle.weigh.specs.Reads.{state}
-use Rattle.weigh.specs.declared.search.Links.{Links}
+use Rattle.weigh.specs.declared.mark.Mark.{Mark}
 use Rattle.worth.specs.Group.{Group}
 
-zeros : (w : ℕ) → get_or (replicate {A = ℕ} 128 0) w 0 ≡ 0
-zeros w = elim (dec_lt w 128) [
-  | yes h ↦ get_or-replicate 128 w 0 0 h
-  | no h ↦ get_or_past (replicate 128 0) w 0 (let z : length (replicate {A = ℕ} 128 0) ≡ 128 = length-replicate {A = ℕ} 128 0 in omega arith)
-]
+-- f is what is read of an element, d what is read past the end
+module _ {K A : Type 0} (f : K → A) (d : A) where
+  pub read_same : (ks : List K) (z : ℕ) (k : K) → z < length ks → get_or (map f (set ks z k)) z d ≡ f k
+  read_same ks z k h = ap (λ ys. get_or ys z d) (map-set f ks z k) ∙ get_or-set_same (map f ks) z (f k) d (rw (length-map ks f) h)
 
-module _ (G : Group) {X : Type 0} (m : X → G.Carrier) where
-  pub worths_same : (xs : List X) (z : ℕ) (v : X) → z < length xs → worths G m (set xs z v) z ≡ m v
-  worths_same xs z v h = ap (λ ys. get_or ys z G.zero) (map-set m xs z v) ∙ get_or-set_same (map m xs) z (m v) G.zero (rw (length-map xs m) h)
-
-  pub worths_other : (xs : List X) (z w : ℕ) (v : X) → w ≢ z → worths G m (set xs z v) w ≡ worths G m xs w
-  worths_other xs z w v h = ap (λ ys. get_or ys w G.zero) (map-set m xs z v) ∙ get_or-set_other (map m xs) z w (m v) G.zero h
+  pub read_other : (ks : List K) (z w : ℕ) (k : K) → w ≢ z → get_or (map f (set ks z k)) w d ≡ get_or (map f ks) w d
+  read_other ks z w k h = ap (λ ys. get_or ys w d) (map-set f ks z k) ∙ get_or-set_other (map f ks) z w (f k) d h
 
   -- what a read gave
-  pub worths_read : (xs : List X) (z : ℕ) (v : X) → z < length xs → v ≡ get_or xs z v → worths G m xs z ≡ m v
-  worths_read xs z v h e = get_or-map m xs z v G.zero h ∙ ap m (sym e)
+  pub read_is : (ks : List K) (z : ℕ) (k : K) → z < length ks → k ≡ get_or ks z k → get_or (map f ks) z d ≡ f k
+  read_is ks z k h e = get_or-map f ks z k d h ∙ ap f (sym e)
 
-  pub link_reads : (dist : List X) (turn from at : List ℕ) (z : ℕ) (v : X) (a s : ℕ) → z < length dist → z < length from → z < length at →
-      Put G (state G m dist (record { turn = turn; from = from; at = at })) (state G m (set dist z v) (record { turn = turn; from = set from z a; at = set at z s })) z (m v) a s
-  link_reads dist turn from at z v a s h k l = record {
-    here = worths_same dist z v h;
-    from_here = get_or-set_same from z a 0 k;
-    at_here = get_or-set_same at z s 0 l;
-    dist_else = λ w e. worths_other dist z w v e;
-    from_else = λ w e. get_or-set_other from z w a 0 e;
-    at_else = λ w e. get_or-set_other at z w s 0 e;
-    turns = λ w. refl;
+  -- what is read of the first n elements
+  pub read_taken : (n : ℕ) (ks : List K) (z : ℕ) (e : K) → z < n → n ≤ length ks → get_or (map f (take n ks)) z d ≡ get_or (map f ks) z d
+  read_taken n ks z e h l = get_or-map f (take n ks) z e d (omega (arith, length-take-le n ks l)) ∙ ap f (get_or-take n ks z e h) ∙ sym (get_or-map f ks z e d (omega arith))
+
+  -- what a write leaves as it was
+  pub read_kept : (ks : List K) (z w : ℕ) (k e : K) → z < length ks → f k ≡ f (get_or ks z e) → get_or (map f (set ks z k)) w d ≡ get_or (map f ks) w d
+  read_kept ks z w k e h same = elim (ℕ_discrete w z) [
+    | yes at ↦ ap (λ i. get_or (map f (set ks z k)) i d) at ∙ read_same ks z k h ∙ same ∙ sym (get_or-map f ks z e d h) ∙ ap (λ i. get_or (map f ks) i d) (sym at)
+    | no ne ↦ read_other ks z w k ne
+  ]
+
+  -- what many like elements give
+  pub read_alike : (n w : ℕ) (k : K) → f k ≡ d → get_or (map f (replicate n k)) w d ≡ d
+  read_alike n w k e = elim (dec_lt w n) [
+    | yes h ↦ get_or-map f (replicate n k) w k d (let long : length (replicate n k) ≡ n = length-replicate n k in omega arith) ∙ ap f (get_or-replicate n w k k h) ∙ e
+    | no h ↦ get_or_past (map f (replicate n k)) w d (let long : length (replicate n k) ≡ n = length-replicate n k in let same : length (map f (replicate n k)) ≡ length (replicate n k) = length-map (replicate n k) f in omega arith)
+  ]
+
+module _ (G : Group) {X : Type 0} (m : X → G.Carrier) (marks : List (Mark X)) (z : ℕ) (e : Mark X) (room : z < length marks) where
+  -- a mark that keeps its turn
+  pub link_reads : (worth : X) (from round : ℕ) → Put G (state G m marks) (state G m (set marks z (record { worth = worth; turn = (get_or marks z e).turn; from = from; round = round }))) z (m worth) from round
+  link_reads worth from round = record {
+    here = read_same (λ k. m k.worth) G.zero marks z _ room;
+    from_here = read_same (λ k. k.from) 0 marks z _ room;
+    at_here = read_same (λ k. k.round) 0 marks z _ room;
+    dist_else = λ w ne. read_other (λ k. m k.worth) G.zero marks z w _ ne;
+    from_else = λ w ne. read_other (λ k. k.from) 0 marks z w _ ne;
+    at_else = λ w ne. read_other (λ k. k.round) 0 marks z w _ ne;
+    turns = λ w. read_kept (λ k. k.turn) 0 marks z w _ e room refl;
   }
 
-  pub begin_reads : (N : Graph G) (x : ℕ) (before dist : List X) (q : Links) → x < 128 → dist ≡ before → q.turn ≡ set (replicate 128 0) x 1 → Begun G N (worths G m before) x (state G m dist q)
-  begin_reads N x before dist q on e f = record {
-    dists = λ w. ap (λ xs. worths G m xs w) e;
-    root = ap (λ xs. get_or xs x 0) f ∙ get_or-set_same (replicate 128 0) x 1 0 (let z : length (replicate {A = ℕ} 128 0) ≡ 128 = length-replicate {A = ℕ} 128 0 in omega arith);
-    others = λ w ne. ap (λ xs. get_or xs w 0) f ∙ get_or-set_other (replicate 128 0) x w 1 0 ne ∙ zeros w;
+  -- a mark that gets another turn
+  abbrev turned : ℕ → List (Mark X)
+  turned turn = set marks z (record { worth = (get_or marks z e).worth; turn = turn; from = (get_or marks z e).from; round = (get_or marks z e).round })
+
+  dists : (turn w : ℕ) → (state G m (turned turn)).dist w ≡ (state G m marks).dist w
+  dists turn w = read_kept (λ k. m k.worth) G.zero marks z w _ e room refl
+
+  pub finish_reads : (turn : ℕ) → Finish G (state G m marks) (state G m (turned turn)) z turn
+  finish_reads turn = record {
+    here = read_same (λ k. k.turn) 0 marks z _ room;
+    else = λ w ne. read_other (λ k. k.turn) 0 marks z w _ ne;
+    dists = dists turn;
+    froms = λ w. read_kept (λ k. k.from) 0 marks z w _ e room refl;
+    ats = λ w. read_kept (λ k. k.round) 0 marks z w _ e room refl;
   }
 
-  pub finish_reads : (dist : List X) (turn from at : List ℕ) (y k : ℕ) → y < length turn →
-      Finish G (state G m dist (record { turn = turn; from = from; at = at })) (state G m dist (record { turn = set turn y k; from = from; at = at })) y k
-  finish_reads dist turn from at y k h = record {
-    here = get_or-set_same turn y k 0 h;
-    else = λ w ne. get_or-set_other turn y w k 0 ne;
-    dists = λ w. refl;
-    froms = λ w. refl;
-    ats = λ w. refl;
+  -- where nothing was finished, at the worths d
+  pub begin_reads : (N : Graph G) (d : ℕ → G.Carrier) → ((w : ℕ) → (state G m marks).dist w ≡ d w) → ((w : ℕ) → (state G m marks).turn w ≡ 0) → Begun G N d z (state G m (turned 1))
+  begin_reads N d at none = record {
+    dists = λ w. dists 1 w ∙ at w;
+    root = read_same (λ k. k.turn) 0 marks z _ room;
+    others = λ w ne. read_other (λ k. k.turn) 0 marks z w _ ne ∙ none w;
   }

@@ -1,6 +1,6 @@
--- Steps written one after the other, and turned round.
-use Rattle.std.proofs.Common.{◌≡◌, ℕ, ◌+◌, ◌<◌, ◌≤◌, List, [], ◌∷◌, ◌++◌, reverse, length, take, drop, set, ap, ◌∙◌, subst, inl, inr, arith}
-use Rattle.std.proofs.lemmas.List.{drop_at, length-reverse, length-take-le, reverse-append, take_all, take-append-le, take_more_set}
+-- Steps written one after the other, from the last to the first.
+use Rattle.std.proofs.Common.{◌≡◌, ℕ, ◌+◌, ◌<◌, List, [], ◌∷◌, reverse, length, take, set, ap, ◌∙◌, inl, inr, arith}
+use Rattle.std.proofs.lemmas.List.{reverse-append, take_more_set}
 use Rattle.chains.specs.Places.{graph_of, Earlier}
 use Rattle.chains.specs.Rounds.{Round}
 use Rattle.paths.specs.Searching.{State}
@@ -10,27 +10,12 @@ use Rattle.weigh.specs.Traces.{Few}
 use Rattle.worth.specs.Group.{Group}
 
 module _ {X : Type 0} where
-  -- one more element, from the last to the first
+  -- one more element
   pub written : (xs : List X) (n : ℕ) (v : X) → n < length xs → reverse (take (n + 1) (set xs n v)) ≡ v ∷ reverse (take n xs)
   written xs n v h = ap reverse (take_more_set xs n v h) ∙ reverse-append (take n xs) (v ∷ [])
 
   pub next_same : {x y : X} {xs ys : List X} → x ≡ y → xs ≡ ys → x ∷ xs ≡ y ∷ ys
   next_same e f = cc
-
-  module _ (xs ys out : List X) (n m : ℕ) (e : m ≡ n) (h : n ≤ length out) (is : xs ≡ reverse (take m out)) where
-    turned : xs ≡ reverse (take n out)
-    turned = subst (λ j. xs ≡ reverse (take j out)) e is
-
-    long : length xs ≡ n
-    long = ap length turned ∙ length-reverse (take n out) ∙ length-take-le n out h
-
-    -- the part that was turned round
-    pub front : take n (xs ++ ys) ≡ reverse (take n out)
-    front = let l = long in take-append-le n xs ys (omega arith) ∙ take_all n xs (omega arith) ∙ turned
-
-    -- and what comes after it
-    pub rest : drop n (xs ++ ys) ≡ ys
-    rest = drop_at xs ys n long
 
 -- the round of a step that is traced is one of few
 module _ (G : Group) (R : List Round) (x t : ℕ) (few : Few R) (present : t < length R) (st : State G) (last round y : ℕ) where

@@ -2,6 +2,8 @@
 use Rattle.std.specs.Prelude.{ℕ, cond, List, length, Some, None, Ok, Err, Option, Result, ◌==◌, nat_lt}
 use Rattle.chains.specs.Rounds.{Round}
 use Rattle.tables.specs.Changes.{takes_bid}
+use Rattle.tables.specs.declared.table.errors.BidError.{BidError}
+use Rattle.tables.specs.declared.table.errors.BidError.TheVariants as bid_errors
 use Rattle.weigh.specs.declared.answer.Held.{Held}
 use Rattle.weigh.specs.declared.answer.Refused.{Refused}
 use Rattle.weigh.specs.declared.answer.Refused.TheVariants.{ShortMemory, RowLength, NoRound, BidStands, Contradiction}
@@ -38,6 +40,12 @@ values (Err e) = record { refusal = Some (refused_number e); «package» = 0; mo
 -- why a table for n products with these rounds does not take this row as the bid of its latest round
 abbrev pub reason : ℕ → List Round → List ℕ → Refused
 reason n rounds row = cond (length row == n) (cond (nat_lt 0 (length rounds)) BidStands NoRound) RowLength
+
+-- the reason that is told where a table does not take the bid
+abbrev pub refusal_of : BidError → Refused
+refusal_of bid_errors.RowLength = RowLength
+refusal_of bid_errors.NoRound = NoRound
+refusal_of bid_errors.BidStands = BidStands
 
 -- the reason not to weigh, if there is one: `shortest` is how long the shortest memory is
 abbrev pub unfit : ℕ → List Round → List ℕ → ℕ → Option Refused

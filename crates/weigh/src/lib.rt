@@ -2,85 +2,25 @@
 
 #![tactic(auto)]
 
-ghost use Rattle.std.specs.Prelude.{◌≡◌, ℕ, ◌+◌, ◌<◌, ◌≤◌, min, length, drop};
-ghost use Rattle.chains.specs.Rounds.{roll};
-ghost use Rattle.tables.specs.Known.{worths as worths-of};
-ghost use Rattle.tables.specs.View.{rounds};
-ghost use Rattle.weigh.specs.Answers.{reason};
-ghost use Rattle.weigh.specs.Trials.{WeighsTrial};
 ghost use Rattle.weigh.specs.Weighing.{Weighs};
 
 use paths::Step;
-use queue::{Entry, Queue};
+use queue::Entry;
 use tables::table::Table;
 use worth::{OrderedWorth, Worth};
 
 mod answer;
 mod entry;
+mod mark;
 mod search;
+mod steps;
+#[cfg(test)]
+mod tests;
 mod trace;
+mod trial;
 
 pub use answer::{Held, Refused};
-use entry::worths_before;
-use search::{Links, Outcome, descend};
-use trace::trace;
-
-// Why the table does not take this row as the bid of its latest round.
-fn reason_of(table: &Table, row: &[u8]) -> Refused
-    ensures { result ≡ reason table.now.products (rounds table.now) row.now }
-{
-    if row.len() != table.products() {
-        Refused::RowLength
-    } else if table.rounds() == 0 {
-        Refused::NoRound
-    } else {
-        Refused::BidStands
-    }
-}
-
-// Writes the first `n` worths.
-fn write_worths<W: OrderedWorth>(worths: &[W; 128], n: usize, after: &mut [W])
-    requires { (n ≤ 128) × (n ≤ length after.old) }
-    ensures long { length after.new ≡ length after.old }
-    ensures rest { drop n after.new ≡ drop n after.old }
-    ensures written { (y : ℕ) → y < n → worths-of W.Worth.group W.Worth.meaning after.new y ≡ worths-of W.Worth.group W.Worth.meaning worths.now y }
-{
-    for y in 0..n {
-        after[y] = worths[y];
-    }
-}
-
-// Weighs the bid of the trial's latest round, for the package at `place`, against the inner worths of the others.
-fn weigh_trial<W: OrderedWorth>(
-    trial: &Table,
-    place: usize,
-    new: bool,
-    inner: &[W],
-    heap: &mut [Entry<W>],
-    chain: &mut [Step],
-    after: &mut [W],
-) -> Result<Held, Refused>
-    requires { ((place < trial.now.packages) × (0 < trial.now.rounds)) × ((128 ≤ length inner.now) × ((128 ≤ length heap.old) × ((128 ≤ length chain.old) × (128 ≤ length after.old)))) }
-    ensures { WeighsTrial W.Worth.group W.Worth.meaning (rounds trial.now) place new inner.now (record { chain = chain.entry.now; worths = after.old }) (record { chain = chain.exit.now; worths = after.new }) result }
-{
-    let before = worths_before(trial, inner, place, new);
-    let mut dist = before;
-    let mut links = Links::new();
-    let mut queue = Queue::new(heap);
-    match descend(trial, &before, place, &mut dist, &mut links, &mut queue) {
-        Outcome::Quiet { moved } => {
-            write_worths(&dist, trial.packages(), after);
-            Ok(Held {
-                package: place + 1,
-                moved,
-            })
-        }
-        Outcome::Around { last, round } => {
-            let steps = trace::<W>(&links, place, last, round, chain);
-            Err(Refused::Contradiction { steps })
-        }
-    }
-}
+use trial::Trial;
 
 /// Weighs one more bid: `row` in the latest round of the table, which has no bid there yet, against the bids that stand.
 ///
@@ -105,17 +45,13 @@ pub fn weigh<W: OrderedWorth>(
     if shortest < 128 {
         return Err(Refused::ShortMemory);
     }
-    let mut trial = *table;
-    match trial.set_bid(row) {
-        None => Err(reason_of(table, row)),
-        Some(place) => weigh_trial(
-            &trial,
-            place,
-            place == table.packages(),
-            inner,
-            heap,
-            chain,
-            after,
-        ),
-    }
+    let mut later = *table;
+    let place = later.set_bid(row)?;
+    let trial = Trial {
+        table: &later,
+        place,
+        enrolled: table.packages(),
+        inner,
+    };
+    trial.weigh(heap, chain, after)
 }

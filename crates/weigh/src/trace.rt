@@ -1,12 +1,13 @@
 //! The chain around that a search has closed.
 
-ghost use Rattle.std.specs.Prelude.{◌≡◌, ℕ, ◌<◌, ◌≤◌, List, length, take, drop};
+ghost use Rattle.std.specs.Prelude.{◌≡◌, ℕ, ◌<◌, ◌≤◌, List, length, take, drop, reverse};
 ghost use Rattle.chains.specs.Numbers.{in_numbers};
 ghost use Rattle.chains.specs.Rounds.{Round};
-ghost use Rattle.weigh.specs.Reads.{state_at};
+ghost use Rattle.weigh.specs.Reads.{state};
 ghost use Rattle.weigh.specs.Traces.{Closed, TracedOut};
 
-use crate::search::Links;
+use crate::mark::Mark;
+use crate::search::Closing;
 use paths::Step;
 use worth::{OrderedWorth, Worth};
 
@@ -21,28 +22,29 @@ fn numbered(from: u8, to: u8, round: u8) -> Step
     }
 }
 
-// Writes the chain around, from the links: those from `x` to `last`, and the step back to `x` in `round`. They are
-// found from the last to the first, and then turned round.
-pub(crate) fn trace<W: OrderedWorth>(
-    q: &Links,
+// Writes the chain around from `x`, from its last step to its first: the one that closes it, and then the links back.
+pub(crate) fn trace_back<W: OrderedWorth>(
+    marks: &[Mark<W>],
     x: usize,
-    last: usize,
-    round: usize,
+    closing: Closing,
     chain: &mut [Step],
 ) -> usize
-    requires { (128 ≤ length chain.old) × ((x < 128) × ((last < 128) × (round < 128))) }
+    requires { (128 ≤ length chain.old) × ((128 ≤ length marks.now) × (x < 128)) }
     ensures few { result ≤ 128 }
+    ensures long { length chain.new ≡ length chain.old }
     ensures rest { drop result chain.new ≡ drop result chain.old }
-    ensures route { (R : List Round) (t : ℕ) (dist : ℕ → W.Worth.group.Carrier) → Closed W.Worth.group R x t (state_at W.Worth.group dist q.now) last round → TracedOut W.Worth.group R x t (take result chain.new) }
+    ensures route { (R : List Round) (t : ℕ) → Closed W.Worth.group R x t (state W.Worth.group W.Worth.meaning marks.now) closing.last closing.round → TracedOut W.Worth.group R x t (reverse (take result chain.new)) }
 {
-    chain[0] = numbered(last as u8, x as u8, round as u8);
-    let mut to = last;
-    let mut n = 1;
-    while to != x && to < 128 && n < 128 {
-        chain[n] = numbered(q.from[to], to as u8, q.at[to]);
-        n += 1;
-        to = q.from[to] as usize;
+    chain[0] = numbered(closing.last as u8, x as u8, closing.round as u8);
+    let mut to = closing.last;
+    // By place: of what is written through an adapter of `iter_mut` no proof knows anything.
+    for n in 1..128 {
+        if to == x || to >= 128 {
+            return n;
+        }
+        let from = marks[to].from;
+        chain[n] = numbered(from, to as u8, marks[to].round);
+        to = from as usize;
     }
-    chain[0..n].reverse();
-    n
+    128
 }

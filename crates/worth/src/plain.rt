@@ -6,7 +6,7 @@ ghost use Rattle.worth.specs.ModelsLemmas.{plain_laws};
 use crate::{OrderedWorth, Worth};
 
 /// An amount of money, with no notches.
-#[derive(Clone, Copy, PartialEq, Eq, Debug)]
+#[derive(Clone, Copy, PartialEq, Eq, PartialOrd, Ord, Default, Debug)]
 pub struct PlainMoney {
     pub value: i64,
 }
@@ -19,7 +19,7 @@ impl Worth for PlainMoney {
     ghost laws = { plain_laws };
 
     fn zero() -> PlainMoney {
-        PlainMoney { value: 0 }
+        PlainMoney::default()
     }
 
     fn sum(&self, other: &PlainMoney) -> PlainMoney {
@@ -37,7 +37,7 @@ impl Worth for PlainMoney {
 
 impl OrderedWorth for PlainMoney {
     fn below(&self, other: &PlainMoney) -> bool {
-        self.value < other.value
+        self < other
     }
 
     fn amount(d: i64) -> PlainMoney {

@@ -7,7 +7,7 @@ ghost use Rattle.worth.specs.ModelsLemmas.{strict_laws};
 use crate::{OrderedWorth, Worth};
 
 /// An amount of money and a number of notches, which count only where the money is the same.
-#[derive(Clone, Copy, PartialEq, Eq, Debug)]
+#[derive(Clone, Copy, PartialEq, Eq, PartialOrd, Ord, Default, Debug)]
 pub struct StrictMoney {
     pub money: i64,
     pub notches: i64,
@@ -21,10 +21,7 @@ impl Worth for StrictMoney {
     ghost laws = { strict_laws };
 
     fn zero() -> StrictMoney {
-        StrictMoney {
-            money: 0,
-            notches: 0,
-        }
+        StrictMoney::default()
     }
 
     fn sum(&self, other: &StrictMoney) -> StrictMoney {
@@ -51,7 +48,7 @@ fn part_sum(a: i64, b: i64) -> i64
 
 impl OrderedWorth for StrictMoney {
     fn below(&self, other: &StrictMoney) -> bool {
-        self.money < other.money || (self.money == other.money && self.notches < other.notches)
+        self < other
     }
 
     fn amount(d: i64) -> StrictMoney {

@@ -1,39 +1,18 @@
-ghost use Rattle.std.specs.Prelude.{◌≡◌, ◌^◌, ◌<◌, ◌≤◌, min, true, false, ◌&&◌, ◌≢◌, [], take, None, nat_lt, slice_index_or};
+ghost use Rattle.std.specs.Prelude.{◌≡◌, min, [], length, take, option_and_then, option_copied, option_map};
 ghost use Rattle.chains.specs.Rounds.{Placed, roll};
-ghost use Rattle.chains.specs.Rows.{cost};
 ghost use Rattle.tables.specs.Readings.{BidAt, CostAt, PackageAt, PricesAt, StepAt};
-ghost use Rattle.tables.specs.Tables.{Found, row_at};
+ghost use Rattle.tables.specs.Tables.{Found};
 ghost use Rattle.tables.specs.View.{rounds};
 
-use super::Table;
+use super::{Round, Table};
 use crate::cost::{cost_of, step};
 use worth::{OrderedWorth, Worth};
 
-// Whether two rows agree in their first `n` cells.
-fn same_cells(a: &[u8; 16], b: &[u8; 16], n: usize) -> bool
-    requires { n ≤ 16 }
-    ensures agree { result ≡ true → take n a.now ≡ take n b.now }
-    ensures differ { result ≡ false → take n a.now ≢ take n b.now }
+// The place of the first of these rows that begins with these cells.
+fn place_among(rows: &[[u8; 16]], front: &[u8]) -> Option<usize>
+    ensures { Found (length front.now) rows.now (length rows.now) front.now result }
 {
-    for i in 0..n {
-        if a[i] != b[i] {
-            return false;
-        }
-    }
-    true
-}
-
-// The place of the first of `count` rows that agrees with `row` in its first `n` cells.
-fn place_among(rows: &[[u8; 16]; 128], count: usize, row: &[u8; 16], n: usize) -> Option<usize>
-    requires { (count ≤ 128) × (n ≤ 16) }
-    ensures { Found n rows.now count (take n row.now) result }
-{
-    for k in 0..count {
-        if same_cells(&rows[k], row, n) {
-            return Some(k);
-        }
-    }
-    None
+    rows.iter().position(|cells| cells.starts_with(front))
 }
 
 impl Table {
@@ -45,93 +24,73 @@ impl Table {
             products: products.min(16),
             rounds: 0,
             packages: 0,
-            prices: [[0; 16]; 128],
+            played: [Round {
+                prices: [0; 16],
+                bid: None,
+            }; 128],
             rows: [[0; 16]; 128],
-            bids: [None; 128],
         }
     }
 
-    // The bid of round `t`, by its place.
-    pub(super) fn bid_at(&self, t: usize) -> Option<usize>
-        requires { t < self.now.rounds }
-        ensures { result ≡ slice_index_or self.now.bids t None }
+    // Round `t` as it is kept, if it is there.
+    pub(super) fn round(&self, t: usize) -> Option<&Round>
+        ensures prices { PricesAt self.now.products (rounds self.now) t (option_map (λ r. r.now.prices) result) }
+        ensures bid { BidAt (rounds self.now) t (option_and_then (λ r. r.now.bid) result) }
     {
-        self.bids[t]
+        self.played[..self.rounds].get(t)
     }
 
-    // What the package at place `a` costs in round `t`.
-    pub(super) fn cost_at(&self, t: usize, a: usize) -> u64
-        requires { (t < self.now.rounds) × (a < self.now.packages) }
-        ensures value { result ≡ cost (row_at self.now.products self.now.rows a) (take self.now.products (slice_index_or self.now.prices t [])) }
-        ensures bound { result ≤ 2 ^ 44 }
+    // The row at place `a` of the roll, if it is there.
+    pub(super) fn row(&self, a: usize) -> Option<&[u8; 16]>
+        ensures { PackageAt self.now.products (rounds self.now) a (option_copied result) }
     {
-        cost_of(&self.rows[a], &self.prices[t], self.products)
-    }
-
-    // Whether there are a round `t` and a place `a`.
-    fn is_there(&self, t: usize, a: usize) -> bool
-        ensures { result ≡ (nat_lt t self.now.rounds && nat_lt a self.now.packages) }
-    {
-        t < self.rounds && a < self.packages
+        self.rows[..self.packages].get(a)
     }
 
     /// The place of the package that stood in round `t`, counted from 0; none in a round with no bid and past the last.
     pub fn bid_in(&self, t: usize) -> Option<usize>
         ensures { BidAt (rounds self.now) t result }
     {
-        if t < self.rounds {
-            self.bid_at(t)
-        } else {
-            None
-        }
+        self.round(t)?.bid
     }
 
     /// What the package at place `a` costs in round `t`; none where there is no such round or place.
     pub fn cost_in(&self, t: usize, a: usize) -> Option<u64>
         ensures { CostAt (rounds self.now) t a result }
     {
-        if !self.is_there(t, a) {
-            return None;
-        }
-        Some(self.cost_at(t, a))
+        let round = self.round(t)?;
+        let cells = self.row(a)?;
+        Some(cost_of(cells, &round.prices, self.products))
     }
 
     /// The step from place `a` to place `b` in round `t`; none where there is no such round or place.
     pub fn step_in<W: OrderedWorth>(&self, a: usize, b: usize, t: usize) -> Option<W>
         ensures { StepAt W.Worth.group W.Worth.meaning (rounds self.now) a b t result }
     {
-        if !self.is_there(t, a) || !self.is_there(t, b) {
-            return None;
-        }
-        Some(step(&self.rows[a], &self.rows[b], &self.prices[t], self.products))
+        let round = self.round(t)?;
+        let from = self.row(a)?;
+        let to = self.row(b)?;
+        Some(step(from, to, &round.prices, self.products))
     }
 
     /// The prices of round `t`, in the first cells; none where there is no such round.
     pub fn prices_in(&self, t: usize) -> Option<[u32; 16]>
         ensures { PricesAt self.now.products (rounds self.now) t result }
     {
-        if t < self.rounds {
-            Some(self.price_row(t))
-        } else {
-            None
-        }
+        Some(self.round(t)?.prices)
     }
 
     /// The quantities of the package at place `a` of the roll, in the first cells; none where there is no such place.
     pub fn package_at(&self, a: usize) -> Option<[u8; 16]>
         ensures { PackageAt self.now.products (rounds self.now) a result }
     {
-        if a < self.packages {
-            Some(self.package_row(a))
-        } else {
-            None
-        }
+        self.row(a).copied()
     }
 
     /// The place on the roll of the package in the first cells of `row`, if it is there.
     pub fn place_of(&self, row: &[u8; 16]) -> Option<usize>
         ensures { Placed (roll (rounds self.now)) (take self.now.products row.now) result }
     {
-        place_among(&self.rows, self.packages, row, self.products)
+        place_among(&self.rows[..self.packages], &row[..self.products])
     }
 }

@@ -1,24 +1,8 @@
-ghost use Rattle.std.specs.Prelude.{◌≡◌, ◌<◌, ◌≤◌, [], slice_index_or};
+ghost use Rattle.std.specs.Prelude.{◌≡◌, ◌≤◌};
 
 use super::Table;
 
 impl Table {
-    // The cells of the prices of round `t`.
-    pub(super) fn price_row(&self, t: usize) -> [u32; 16]
-        requires { t < self.now.rounds }
-        ensures { result ≡ slice_index_or self.now.prices t [] }
-    {
-        self.prices[t]
-    }
-
-    // The cells of the package at place `a`.
-    pub(super) fn package_row(&self, a: usize) -> [u8; 16]
-        requires { a < self.now.packages }
-        ensures { result ≡ slice_index_or self.now.rows a [] }
-    {
-        self.rows[a]
-    }
-
     /// How many products the sale has.
     pub fn products(&self) -> usize
         ensures { (result ≡ self.now.products) × (result ≤ 16) }

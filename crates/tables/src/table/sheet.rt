@@ -1,10 +1,12 @@
 ghost use Rattle.std.specs.Prelude.{◌≡◌, ℕ, ◌<◌, ◌≤◌, min, length, drop, slice_index_or};
 ghost use Rattle.chains.specs.Rounds.{roll};
 ghost use Rattle.tables.specs.Known.{Known, LeadAt, RiseIs, SheetWritten, larger_of};
+ghost use Rattle.tables.specs.Tables.{blank};
 ghost use Rattle.tables.specs.View.{rounds};
 ghost use Rattle.worth.specs.Says.{ExactSum};
 
-use super::Table;
+use super::{Round, Table};
+use crate::cost::cost_of;
 use worth::{OrderedWorth, Worth, difference};
 
 // The larger of two values that are there, and the first where they are equal.
@@ -18,49 +20,32 @@ fn larger<W: OrderedWorth>(a: Option<W>, b: Option<W>) -> Option<W>
     }
 }
 
-// A package's worth on the sheet: its inner worth and the rise.
-fn sheet_worth<W: OrderedWorth>(inner: &W, rise: &W) -> W
-    ensures exact { ExactSum W.Worth.group W.Worth.meaning inner.now rise.now result }
-{
-    inner.sum(rise)
-}
-
-// How many worths are written: one a package, and no more than are known and fit.
-fn fitting(packages: usize, known: usize, room: usize) -> usize
-    ensures { result ≡ min packages (min known room) }
-{
-    packages.min(known.min(room))
-}
-
 // Writes the worths of the first `packages` packages, and answers how many there were and fitted.
 fn write_worths<W: OrderedWorth>(inner: &[W], rise: &W, packages: usize, sheet: &mut [W]) -> usize
     ensures value { result ≡ min packages (min (length inner.now) (length sheet.old)) }
     ensures each { (k : ℕ) (d : W) → k < result → ExactSum W.Worth.group W.Worth.meaning (slice_index_or inner.now k d) rise.now (slice_index_or sheet.new k d) }
     ensures rest { drop result sheet.new ≡ drop result sheet.old }
 {
-    let count = fitting(packages, inner.len(), sheet.len());
-    for k in 0..count {
-        sheet[k] = sheet_worth(&inner[k], rise);
+    let count = packages.min(inner.len().min(sheet.len()));
+    // By place: through a zipped `iter_mut` no proof follows what is written.
+    for (k, worth) in inner[..count].iter().enumerate() {
+        sheet[k] = worth.sum(rise);
     }
     count
 }
 
+// Whether values are the inner worths no test tells, and no call asks for more than it tests: so `Known` is a premise of
+// clauses, and no invariant of a type.
 impl Table {
-    // What the bid of round `t` costs there, less the inner worth of its package.
-    fn lead_in<W: OrderedWorth>(&self, inner: &[W], t: usize) -> Option<W>
-        requires { t < self.now.rounds }
-        ensures { Known W.Worth.group W.Worth.meaning (rounds self.now) inner.now → LeadAt W.Worth.group W.Worth.meaning (rounds self.now) t result }
+    // What the bid of a round costs there, less the inner worth of its package.
+    fn lead_in<W: OrderedWorth>(&self, inner: &[W], round: &Round) -> Option<W>
+        ensures { (t : ℕ) → t < self.now.rounds → round.now ≡ slice_index_or self.now.played t blank → Known W.Worth.group W.Worth.meaning (rounds self.now) inner.now → LeadAt W.Worth.group W.Worth.meaning (rounds self.now) t result }
     {
-        match self.bid_at(t) {
-            None => None,
-            Some(a) => {
-                if a >= inner.len() {
-                    return None;
-                }
-                let cost = self.cost_at(t, a);
-                Some(difference(&W::amount(cost as i64), &inner[a]))
-            }
-        }
+        let place = round.bid?;
+        let worth = inner.get(place)?;
+        let cells = self.row(place)?;
+        let cost = cost_of(cells, &round.prices, self.products);
+        Some(difference(&W::amount(cost as i64), worth))
     }
 
     /// The rise, from the inner worths of the packages on the roll: the greatest, over all standing bids, of the bid's
@@ -69,8 +54,8 @@ impl Table {
         ensures { Known W.Worth.group W.Worth.meaning (rounds self.now) inner.now → RiseIs W.Worth.group W.Worth.meaning (rounds self.now) result }
     {
         let mut most = None;
-        for t in 0..self.rounds {
-            most = larger(most, self.lead_in(inner, t));
+        for round in &self.played[..self.rounds] {
+            most = larger(most, self.lead_in(inner, round));
         }
         most
     }

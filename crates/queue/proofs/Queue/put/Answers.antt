@@ -1,64 +1,43 @@
-use Rattle.std.proofs.Common.{◌≡◌, ℕ, ◌+◌, ◌-◌, ◌<◌, get_or, sym, refl, ap, ◌∙◌, subst, arith}
+use Rattle.std.proofs.Common.{◌≡◌, ◌<◌, get_or, sym, refl, ap, ◌∙◌, arith}
 use Rattle.std.proofs.lemmas.Bool.{eqb-true, eqb-false}
-use Rattle.heaps.specs.Found.{Absent}
-use Rattle.queue.specs.Contents.{memory, count, room}
+use Rattle.queue.specs.Contents.{memory, waiting, count, room}
 use Rattle.queue.specs.declared.Entry.{Entry}
+use Rattle.queue.proofs.Memory.{lacks_unplaced}
 use Rattle.queue.proofs.Puts as puts
 use Rattle.queue.proofs.Queue.put.Goals as goal
 
-pub returns-then-not-undercuts : goal.returns-then-not-undercuts
-returns-then-not-undercuts g c =
-    let G = g.W.Worth.group in
-    let m = g.W.Worth.meaning in
+pub returns-else-undercuts : goal.returns-else-undercuts
+returns-else-undercuts g c =
     let q = c.args.self.now in
     let e : Entry g.row.W.Denot = record { «package» = c.args.«package»; key = c.args.key } in
-    let at = c.in-Some.ensures in
-    let i = c.in-Some.i in
-    let in' : i < count q = omega (arith, at.0, c.len-n.ensures.value) in
-    record { done = puts.kept G m q e (get_or (memory q) i c.index-s-i.result) i in' at.1 at.2 (ap (get_or (memory q) i) c.index-s-i.is) (sym c.if-not-undercuts.ensures.value) }
+    let at = sym c.place.ensures.value ∙ c.in-Some.is in
+    record { done = puts.kept g.W.Worth.group g.W.Worth.meaning q e (get_or (memory q) c.in-Some.i c.index-self-i.result) c.in-Some.i at (ap (get_or (memory q) c.in-Some.i) c.index-self-i.is) (sym c.if-undercuts.ensures.value) }
 
-pub returns-else-not-undercuts : goal.returns-else-not-undercuts
-returns-else-not-undercuts g c =
-    let G = g.W.Worth.group in
-    let m = g.W.Worth.meaning in
+pub returns-then-undercuts : goal.returns-then-undercuts
+returns-then-undercuts g c =
     let q = c.args.self.now in
     let e : Entry g.row.W.Denot = record { «package» = c.args.«package»; key = c.args.key } in
-    let at = c.in-Some.ensures in
-    let i = c.in-Some.i in
-    let in' : i < count q = omega (arith, at.0, c.len-n.ensures.value) in
-    let k = c.len-n.result - 0 in
-    let is : k ≡ count q = omega (arith, c.len-n.ensures.value) in
+    let at = sym c.place.ensures.value ∙ c.in-Some.is in
     let told = c.lower.ensures in
     record {
-      done = puts.lowered G m q e (get_or (memory q) i c.index-s-i.result) i in' at.1 at.2 (ap (get_or (memory q) i) c.index-s-i.is) _ c.lower.new.s k is refl refl
-          told.shuffled (sym c.if-not-undercuts.ensures.value) told.heap;
+      done = puts.lowered g.W.Worth.group g.W.Worth.meaning q e (get_or (memory q) c.in-Some.i c.index-self-i.result) c.in-Some.i at (ap (get_or (memory q) c.in-Some.i) c.index-self-i.is) _ c.lower.new.s refl refl
+          told.shuffled (sym c.if-undercuts.ensures.value) told.heap;
     }
 
-pub returns-then-full : goal.returns-then-full
-returns-then-full g c =
-    let G = g.W.Worth.group in
-    let m = g.W.Worth.meaning in
+pub returns-in-None : goal.returns-in-None
+returns-in-None g c =
     let q = c.args.self.now in
     let e : Entry g.row.W.Denot = record { «package» = c.args.«package»; key = c.args.key } in
-    let all : count q ≡ room q = eqb-true (count q) (room q) (sym c.is_full-full.ensures.value ∙ c.if-full.true) in
-    let P : ℕ → Type 0 = λ n. Absent (λ (x : Entry g.row.W.Denot). x.«package») (memory q) n e.«package» in
-    let out = subst P c.len-n.ensures.value c.in-None.ensures in
-    record { done = puts.full G m q e out all }
+    let out = lacks_unplaced (waiting q) e.«package» (sym c.place.ensures.value ∙ c.in-None.is) in
+    let all : count q ≡ room q = eqb-true (count q) (room q) (sym c.is_full.ensures.value ∙ c.if-is_full.true) in
+    record { done = puts.full g.W.Worth.group g.W.Worth.meaning q e out all }
 
-pub returns-else-full : goal.returns-else-full
-returns-else-full g c =
-    let G = g.W.Worth.group in
-    let m = g.W.Worth.meaning in
+pub returns-in-None-2 : goal.returns-in-None-2
+returns-in-None-2 g c =
     let q = c.args.self.now in
     let e : Entry g.row.W.Denot = record { «package» = c.args.«package»; key = c.args.key } in
-    let n = c.len-n.result in
-    let is = c.len-n.ensures.value in
-    let P : ℕ → Type 0 = λ j. Absent (λ (x : Entry g.row.W.Denot). x.«package») (memory q) j e.«package» in
-    let out = subst P is c.in-None.ensures in
-    let k = n + 1 - 0 in
-    let one : k ≡ count q + 1 = omega (arith, is) in
-    let free = eqb-false (count q) (room q) (sym c.is_full-full.ensures.value ∙ c.if-full.false) in
-    let in' : count q < room q = omega (arith, is, c.len-n.ensures.within) in
-    let len : n + 1 ≡ count q + 1 = omega (arith, is) in
+    let out = lacks_unplaced (waiting q) e.«package» (sym c.place.ensures.value ∙ c.in-None-2.is) in
+    let free = eqb-false (count q) (room q) (sym c.is_full.ensures.value ∙ c.if-is_full.false) in
+    let in' : count q < room q = omega (arith, q.within) in
     let told = c.append.ensures in
-    record { done = puts.added G m q e out _ c.append.new.s k one in' refl len told.shuffled told.heap }
+    record { done = puts.added g.W.Worth.group g.W.Worth.meaning q e out _ c.append.new.s in' refl refl told.shuffled told.heap }

@@ -1,6 +1,6 @@
 use Rattle.tables.proofs.Bytes.{Laid}
 use Rattle.tables.proofs.table.Table.write_roll.Given as goal
 
--- the packages so far are written
+-- the rows so far are written
 abbrev pub invariant-loop-k : goal.invariant-loop-k
-invariant-loop-k l = Laid l.self.products l.self.rows l.initial.bytes l.k l.at l.bytes
+invariant-loop-k l = Laid l.self.products l.self.rows l.initial.bytes l.k l.bytes

@@ -1,21 +1,8 @@
-use Rattle.std.proofs.Common.{◌≤◌, length, sym, ap, arith, rules}
-use Rattle.tables.proofs.Sheets.{sheet_empty, sheet_from_sums, sheet_small}
+use Rattle.std.proofs.Common.{◌≤◌, length, arith}
+use Rattle.tables.proofs.Sheets.{sheet_from_sums, sheet_small}
 use Rattle.tables.proofs.Views.{table_roll}
 use Rattle.tables.specs.View.{rounds}
 use Rattle.tables.proofs.table.Table.write_sheet.Goals as goal
-
-pub returns-in-None : goal.returns-in-None
-returns-in-None g c = record {
-  after = λ known _.
-      let none = c.in-None.ensures known in
-      record {
-        count = sym (ap length none);
-        sheet = sheet_empty g.W.Worth.group g.met.W.Worth.laws g.W.Worth.meaning (rounds c.args.self.now) none;
-        small = λ y h. absurd (omega arith);
-      };
-  few = (omega arith, omega arith);
-  rest = search rules;
-}
 
 pub returns-in-Some : goal.returns-in-Some
 returns-in-Some g c =
