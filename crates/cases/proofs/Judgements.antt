@@ -2,13 +2,13 @@
 use Rattle.std.proofs.Common.{◌≡◌, ℕ, true, false, List, [], ◌∷◌, Some, None, Option, sym, refl, ap, subst}
 use Rattle.std.proofs.lemmas.Bool.{and_parts, both_ways, eqb-true}
 use Rattle.cases.proofs.Sheets.{explained_so, falls_so}
-use Rattle.cases.specs.Check.{row_offered, shows, says, judged, answer, judges}
-use Rattle.cases.specs.Claims.{Money, plain_money, strict_money, group_of, Verdict, Met, Held, Refused, Contradicts, Line, number_said, number_told, JudgesSo}
+use Rattle.cases.specs.Check.{row_offered, shows, says, judged, answer, all_judged}
+use Rattle.cases.specs.Claims.{Money, plain_money, strict_money, group_of, Verdict, met, held, refused, contradicts, Line, number_said, number_told, JudgesSo}
 use Rattle.chains.specs.Chains.{Explained}
 use Rattle.chains.specs.Rounds.{offered}
 use Rattle.ledger.specs.Feeding.{after}
-use Rattle.ledger.specs.Judging.{early, Consistent, Judged, met, contradicts, barred}
-use Rattle.ledger.specs.Ledger.{Dealing, Opening, Offering, Confirming, Withdrawing, Closing, Reading-sheet, Reading-roll, Ledger}
+use Rattle.ledger.specs.Judging.{early, Consistent, Judged, met as judged_met, contradicts as judged_contradiction, barred}
+use Rattle.ledger.specs.Ledger.{Dealing, opening, offering, confirming, withdrawing, closing, reading_sheet, reading_roll, Ledger}
 use Rattle.ledger.specs.declared.refusal.Refusal.{Refusal}
 use Rattle.worth.specs.ModelsLemmas.{plain_laws, strict_laws}
 use Rattle.worth.specs.Group.{Group, Laws}
@@ -28,13 +28,13 @@ module _ (k : Money) (l : Ledger) where
   Asked (Some row) = Explained G (offered l.rounds row)
 
   asked : (d : Dealing) → Consistent G l d ≡ Asked (row_offered d)
-  asked (Opening prices) = refl
-  asked (Offering row heap chain) = refl
-  asked (Confirming slip) = refl
-  asked (Withdrawing slip) = refl
-  asked Closing = refl
-  asked (Reading-sheet memory) = refl
-  asked (Reading-roll memory) = refl
+  asked (opening prices) = refl
+  asked (offering row heap chain) = refl
+  asked (confirming slip) = refl
+  asked (withdrawing slip) = refl
+  asked closing = refl
+  asked (reading_sheet memory) = refl
+  asked (reading_roll memory) = refl
 
   module _ (d : Dealing) where
     -- the answer is judged so, and told as the verdict says
@@ -43,29 +43,29 @@ module _ (k : Money) (l : Ledger) where
 
     -- where no refusal below 12 is told
     shows_so : (row : Option (List ℕ)) (v : Verdict k) → Consistent G l d ≡ Asked row → early l d ≡ None → shows k l.rounds row v ≡ true → Right v None
-    shows_so None Met c e h = (met e (subst (λ X. X) (sym c) tt), refl)
-    shows_so None (Held worths) c e h = absurd (both_ways false refl h)
-    shows_so None (Refused n) c e h = absurd (both_ways false refl h)
-    shows_so None (Contradicts chain) c e h = absurd (both_ways false refl h)
-    shows_so (Some row) Met c e h = absurd (both_ways false refl h)
-    shows_so (Some row) (Held worths) c e h = (met e (subst (λ X. X) (sym c) (explained_so G (laws_of k) (offered l.rounds row) worths h)), refl)
-    shows_so (Some row) (Refused n) c e h = absurd (both_ways false refl h)
-    shows_so (Some row) (Contradicts chain) c e h =
-        (contradicts e (λ so. falls_so G (laws_of k) (offered l.rounds row) chain h (subst (λ X. X) c so)), refl)
+    shows_so None met c e h = (judged_met e (subst (λ X. X) (sym c) tt), refl)
+    shows_so None (held worths) c e h = absurd (both_ways false refl h)
+    shows_so None (refused n) c e h = absurd (both_ways false refl h)
+    shows_so None (contradicts chain) c e h = absurd (both_ways false refl h)
+    shows_so (Some row) met c e h = absurd (both_ways false refl h)
+    shows_so (Some row) (held worths) c e h = (judged_met e (subst (λ X. X) (sym c) (explained_so G (laws_of k) (offered l.rounds row) worths h)), refl)
+    shows_so (Some row) (refused n) c e h = absurd (both_ways false refl h)
+    shows_so (Some row) (contradicts chain) c e h =
+        (judged_contradiction e (λ so. falls_so G (laws_of k) (offered l.rounds row) chain h (subst (λ X. X) c so)), refl)
 
     -- where one is
     says_so : (r : Refusal) (v : Verdict k) → early l d ≡ Some r → says k r v ≡ true → Right v (Some r)
-    says_so r Met e h = absurd (both_ways false refl h)
-    says_so r (Held worths) e h = absurd (both_ways false refl h)
-    says_so r (Refused n) e h = (barred e, ap Some (eqb-true _ n h))
-    says_so r (Contradicts chain) e h = absurd (both_ways false refl h)
+    says_so r met e h = absurd (both_ways false refl h)
+    says_so r (held worths) e h = absurd (both_ways false refl h)
+    says_so r (refused n) e h = (barred e, ap Some (eqb-true _ n h))
+    says_so r (contradicts chain) e h = absurd (both_ways false refl h)
 
     judged_so : (v : Verdict k) (o : Option Refusal) → early l d ≡ o → judged k l d v o ≡ true → Right v o
     judged_so v None e h = shows_so (row_offered d) v (asked d) e h
     judged_so v (Some r) e h = says_so r v e h
 
 -- verdicts that pass, one after another
-pub judges_so : (k : Money) (l : Ledger) (lines : List (Line k)) → judges k l lines ≡ true → JudgesSo k l lines
+pub judges_so : (k : Money) (l : Ledger) (lines : List (Line k)) → all_judged k l lines ≡ true → JudgesSo k l lines
 judges_so k l [] h = tt
 judges_so k l (line ∷ lines) h =
     let p = and_parts _ _ h in

@@ -35,10 +35,10 @@ module _ (G : Group) (L : Laws G) (rounds : List Round) where
 
   -- each pair of steps back and forth has the sum
   pub pairs_so : (s : Carrier) → pairs_are G rounds s ≡ true → PairsAre G rounds s
-  pairs_so s h t u x y at-t at-u apart =
-      let p = each_below (length rounds) _ h t (stood_before rounds t x at-t) in
-      let q = each_below (length rounds) _ p u (stood_before rounds u y at-u) in
-      let two : pair_is G rounds s t u (Some x) (Some y) ≡ true = rw (at-t, at-u) at q in
+  pairs_so s h t u x y at_t at_u apart =
+      let p = each_below (length rounds) _ h t (stood_before rounds t x at_t) in
+      let q = each_below (length rounds) _ p u (stood_before rounds u y at_u) in
+      let two : pair_is G rounds s t u (Some x) (Some y) ≡ true = rw (at_t, at_u) at q in
       equal_is G L _ _ (unless_first _ _ (not_same y x apart) two)
 
   -- worths that pass explain, by place

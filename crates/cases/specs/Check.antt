@@ -1,6 +1,6 @@
 -- The check of a claim: a test that computes.
 use Rattle.std.specs.Prelude.{ℕ, zero as nought, suc, Bool, true, false, not, ◌&&◌, ◌||◌, List, [], ◌∷◌, map, length, Some, None, Option, ◌==◌, nat_lt, slice_index_or}
-use Rattle.cases.specs.Claims.{Money, group_of, Verdict, Met, Held, Refused, Contradicts, Line, Claim, Costs, Sums, Pairs-sum, Sheet-is, Judges}
+use Rattle.cases.specs.Claims.{Money, group_of, Verdict, met, held, refused, contradicts, Line, Claim, costs, sums, pairs_sum, sheet_is, judges}
 use Rattle.chains.specs.Chains.{step}
 use Rattle.chains.specs.Places.{package_at, graph_of, bids_of}
 use Rattle.chains.specs.Rounds.{Round, round, same, roll, offered}
@@ -8,7 +8,7 @@ use Rattle.chains.specs.Rows.{cost}
 use Rattle.chains.specs.Sheet.{paid}
 use Rattle.ledger.specs.Feeding.{after}
 use Rattle.ledger.specs.Judging.{early}
-use Rattle.ledger.specs.Ledger.{Dealing, Opening, Offering, Confirming, Withdrawing, Closing, Reading-sheet, Reading-roll, Ledger}
+use Rattle.ledger.specs.Ledger.{Dealing, opening, offering, confirming, withdrawing, closing, reading_sheet, reading_roll, Ledger}
 use Rattle.ledger.specs.Refusals.{refusal_number}
 use Rattle.ledger.specs.declared.refusal.Refusal.{Refusal}
 use Rattle.ledger.specs.declared.refusal.Refusal.TheVariants.{Contradiction}
@@ -116,32 +116,32 @@ module _ (G : Group) where
 
 -- the row that a dealing offers
 abbrev pub row_offered : Dealing → Option (List ℕ)
-row_offered (Opening prices) = None
-row_offered (Offering row heap chain) = Some row
-row_offered (Confirming slip) = None
-row_offered (Withdrawing slip) = None
-row_offered Closing = None
-row_offered (Reading-sheet memory) = None
-row_offered (Reading-roll memory) = None
+row_offered (opening prices) = None
+row_offered (offering row heap chain) = Some row
+row_offered (confirming slip) = None
+row_offered (withdrawing slip) = None
+row_offered closing = None
+row_offered (reading_sheet memory) = None
+row_offered (reading_roll memory) = None
 
 module _ (k : Money) where
   -- what the verdict shows of an offer, where no refusal below 12 is told
   abbrev pub shows : List Round → Option (List ℕ) → Verdict k → Bool
-  shows rounds None Met = true
-  shows rounds None (Held worths) = false
-  shows rounds None (Refused n) = false
-  shows rounds None (Contradicts chain) = false
-  shows rounds (Some row) Met = false
-  shows rounds (Some row) (Held worths) = explain (group_of k) (offered rounds row) worths
-  shows rounds (Some row) (Refused n) = false
-  shows rounds (Some row) (Contradicts chain) = falls (group_of k) (offered rounds row) chain
+  shows rounds None met = true
+  shows rounds None (held worths) = false
+  shows rounds None (refused n) = false
+  shows rounds None (contradicts chain) = false
+  shows rounds (Some row) met = false
+  shows rounds (Some row) (held worths) = explain (group_of k) (offered rounds row) worths
+  shows rounds (Some row) (refused n) = false
+  shows rounds (Some row) (contradicts chain) = falls (group_of k) (offered rounds row) chain
 
   -- the verdict is this refusal
   abbrev pub says : Refusal → Verdict k → Bool
-  says r Met = false
-  says r (Held worths) = false
-  says r (Refused n) = refusal_number r == n
-  says r (Contradicts chain) = false
+  says r met = false
+  says r (held worths) = false
+  says r (refused n) = refusal_number r == n
+  says r (contradicts chain) = false
 
   -- the verdict fits, where this is the lowest refusal below 12
   abbrev pub judged : Ledger → Dealing → Verdict k → Option Refusal → Bool
@@ -151,25 +151,25 @@ module _ (k : Money) where
   -- what a verdict that fits answers, where this is the lowest refusal below 12
   abbrev pub answer : Verdict k → Option Refusal → Option Refusal
   answer v (Some r) = Some r
-  answer Met None = None
-  answer (Held worths) None = None
-  answer (Refused n) None = None
-  answer (Contradicts chain) None = Some Contradiction
+  answer met None = None
+  answer (held worths) None = None
+  answer (refused n) None = None
+  answer (contradicts chain) None = Some Contradiction
 
   -- the verdicts fit, one after another
-  abbrev pub judges : Ledger → List (Line k) → Bool
-  judges l [] = true
-  judges l (line ∷ lines) =
+  abbrev pub all_judged : Ledger → List (Line k) → Bool
+  all_judged l [] = true
+  all_judged l (line ∷ lines) =
       judged l line.dealing line.verdict (early l line.dealing)
-      && judges (after l line.dealing (answer line.verdict (early l line.dealing))) lines
+      && all_judged (after l line.dealing (answer line.verdict (early l line.dealing))) lines
 
 -- whether a claim passes the check
 abbrev pub passes : Claim → Bool
-passes (Costs prices row n) = cost row prices == n
-passes (Sums k rounds ls values s) = is_chain (group_of k) rounds ls values s
-passes (Pairs-sum k rounds s) = pairs_are (group_of k) rounds s
-passes (Sheet-is k rounds sheet g) = is_sheet (group_of k) rounds sheet g.inner g.chains g.top_round g.top_package
-passes (Judges k l lines) = judges k l lines
+passes (costs prices row n) = cost row prices == n
+passes (sums k rounds ls values s) = is_chain (group_of k) rounds ls values s
+passes (pairs_sum k rounds s) = pairs_are (group_of k) rounds s
+passes (sheet_is k rounds sheet g) = is_sheet (group_of k) rounds sheet g.inner g.chains g.top_round g.top_package
+passes (judges k l lines) = all_judged k l lines
 
 -- whether every claim of a list does
 abbrev pub all_pass : List Claim → Bool

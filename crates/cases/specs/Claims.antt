@@ -42,13 +42,13 @@ pub record Grounds (k : Money) : Type 0 where
 
 -- how a dealing is judged, and where it is an offer, what shows it
 pub data Verdict (k : Money) : Type 0 where
-  Met : Verdict k
+  met : Verdict k
   -- an offer is met: these worths explain the bids
-  Held : (worths : List (Value k)) → Verdict k
+  held : (worths : List (Value k)) → Verdict k
   -- refused under a number
-  Refused : ℕ → Verdict k
+  refused : ℕ → Verdict k
   -- an offer is refused under number 12: this chain around is below zero
-  Contradicts : (chain : List Step) → Verdict k
+  contradicts : (chain : List Step) → Verdict k
 
 -- a dealing with its verdict
 pub record Line (k : Money) : Type 0 where
@@ -58,22 +58,22 @@ pub record Line (k : Money) : Type 0 where
 -- What is handed to the check alone, grounds, worths and chains around, is no part of what a claim means.
 pub data Claim : Type 0 where
   -- at these prices the package costs n
-  Costs : (prices row : List ℕ) → ℕ → Claim
+  costs : (prices row : List ℕ) → ℕ → Claim
   -- the steps are a chain, come to these values one by one, and sum to s
-  Sums : (k : Money) → List Round → List Step → List (Value k) → (s : Value k) → Claim
+  sums : (k : Money) → List Round → List Step → List (Value k) → (s : Value k) → Claim
   -- each step between two packages and each step back sum to s
-  Pairs-sum : (k : Money) → List Round → (s : Value k) → Claim
+  pairs_sum : (k : Money) → List Round → (s : Value k) → Claim
   -- the sheet is this one
-  Sheet-is : (k : Money) → List Round → (sheet : List (Value k)) → Grounds k → Claim
+  sheet_is : (k : Money) → List Round → (sheet : List (Value k)) → Grounds k → Claim
   -- the ledger judges these dealings, told one after another, as said
-  Judges : (k : Money) → Ledger → List (Line k) → Claim
+  judges : (k : Money) → Ledger → List (Line k) → Claim
 
 -- the number that a verdict says, if it is a refusal
 abbrev pub number_said : {k : Money} → Verdict k → Option ℕ
-number_said Met = None
-number_said (Held worths) = None
-number_said (Refused n) = Some n
-number_said (Contradicts chain) = Some 12
+number_said met = None
+number_said (held worths) = None
+number_said (refused n) = Some n
+number_said (contradicts chain) = Some 12
 
 -- the number under which a refusal, if there is one, is told
 abbrev pub number_told : Option Refusal → Option ℕ
@@ -108,8 +108,8 @@ JudgesSo k l (line ∷ lines) =
 
 -- what a claim means
 abbrev pub Holds : Claim → Type 0
-Holds (Costs prices row n) = cost row prices ≡ n
-Holds (Sums k rounds ls values s) = IsChain (group_of k) rounds ls values s
-Holds (Pairs-sum k rounds s) = PairsAre (group_of k) rounds s
-Holds (Sheet-is k rounds sheet grounds) = TheSheet (group_of k) rounds sheet
-Holds (Judges k l lines) = JudgesSo k l lines
+Holds (costs prices row n) = cost row prices ≡ n
+Holds (sums k rounds ls values s) = IsChain (group_of k) rounds ls values s
+Holds (pairs_sum k rounds s) = PairsAre (group_of k) rounds s
+Holds (sheet_is k rounds sheet grounds) = TheSheet (group_of k) rounds sheet
+Holds (judges k l lines) = JudgesSo k l lines

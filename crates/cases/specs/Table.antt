@@ -1,9 +1,9 @@
 -- The table of the worked cases.
 use Rattle.std.specs.Prelude.{ℕ, pred, List, [], ◌∷◌, ℤ, pos, neg_ℤ, Some, None}
 use Rattle.std.specs.List.{AllByRecursion}
-use Rattle.cases.specs.Claims.{Money, plain_money, strict_money, Value, Grounds, Verdict, Met, Held, Refused, Contradicts, Line, Claim, Costs, Sums, Pairs-sum, Sheet-is, Judges, Holds}
+use Rattle.cases.specs.Claims.{Money, plain_money, strict_money, Value, Grounds, Verdict, met, held, refused, contradicts, Line, Claim, costs, sums, pairs_sum, sheet_is, judges, Holds}
 use Rattle.chains.specs.Rounds.{Round, offered}
-use Rattle.ledger.specs.Ledger.{Making, Dealing, Opening, Offering, Closing, Ledger, new}
+use Rattle.ledger.specs.Ledger.{Making, Dealing, opening, offering, closing, Ledger, new}
 use Rattle.ledger.specs.declared.state.State.TheVariants.{Open}
 use Rattle.paths.specs.declared.Step.{Step}
 
@@ -33,7 +33,7 @@ open_in products rounds = record { making = book_of products; state = Open; roun
 
 -- an offer with fit memory
 abbrev pub Offer : (row : List ℕ) → Dealing
-Offer row = Offering row 128 128
+Offer row = offering row 128 128
 
 -- a dealing and its verdict
 infix 68 ◌is◌
@@ -63,12 +63,12 @@ two_steps = 3 to 1 at 3 ∷ 1 to 3 at 1 ∷ []
 -- openings of a sale with one product
 abbrev pub openings : List (Line plain_money)
 openings =
-    Opening (1000000001 ∷ []) is Refused 6
-    ∷ Opening (1000000000 ∷ []) is Met
-    ∷ Closing is Met
-    ∷ Opening (1000000000 ∷ []) is Met
-    ∷ Closing is Met
-    ∷ Opening (999999999 ∷ []) is Refused 7
+    opening (1000000001 ∷ []) is refused 6
+    ∷ opening (1000000000 ∷ []) is met
+    ∷ closing is met
+    ∷ opening (1000000000 ∷ []) is met
+    ∷ closing is met
+    ∷ opening (999999999 ∷ []) is refused 7
     ∷ []
 
 -- two rounds at the same prices, before the bid of the second
@@ -87,32 +87,32 @@ three_steps = 3 to 2 at 3 ∷ 2 to 1 at 2 ∷ 1 to 3 at 1 ∷ []
 unfoldable pub table : List Claim
 table =
     -- at prices 10, 20 the package 2 0 costs 20
-    Costs (10 ∷ 20 ∷ []) (2 ∷ 0 ∷ []) 20
+    costs (10 ∷ 20 ∷ []) (2 ∷ 0 ∷ []) 20
     -- in the listing the step from package 2 to package 1 at round 2 is 8
-    ∷ Sums plain_money listing (2 to 1 at 2 ∷ []) (pos 8 ∷ []) (pos 8)
+    ∷ sums plain_money listing (2 to 1 at 2 ∷ []) (pos 8 ∷ []) (pos 8)
     -- where 3 0 is offered in round 3, the chain 3>1@3 1>3@1 has the steps -16 and 10 and sums to -6; the offer is refused
-    ∷ Sums plain_money (offered three_rounds (3 ∷ 0 ∷ [])) two_steps (minus 16 ∷ pos 10 ∷ []) (minus 6)
-    ∷ Judges plain_money (open_in 2 three_rounds) (Offer (3 ∷ 0 ∷ []) is Contradicts two_steps ∷ [])
+    ∷ sums plain_money (offered three_rounds (3 ∷ 0 ∷ [])) two_steps (minus 16 ∷ pos 10 ∷ []) (minus 6)
+    ∷ judges plain_money (open_in 2 three_rounds) (Offer (3 ∷ 0 ∷ []) is contradicts two_steps ∷ [])
     -- A price of 1,000,000,001 is refused with 6, and one of 1,000,000,000 passes. A price equal to the last passes, and one
     -- that is 1 less is refused with 7.
-    ∷ Judges plain_money (new (book_of 1)) openings
+    ∷ judges plain_money (new (book_of 1)) openings
     -- the listing's last sheet is 32 and 30 at plain money, and 32/0 and 30/-1 at strict money
-    ∷ Sheet-is plain_money listing (pos 32 ∷ pos 30 ∷ []) (grounds (pos 0 ∷ minus 2 ∷ []) ([] ∷ (1 to 2 at 3 ∷ []) ∷ []) 1 3)
-    ∷ Sheet-is strict_money listing ((pos 32, pos 0) ∷ (pos 30, minus 1) ∷ []) (grounds ((pos 0, pos 0) ∷ (minus 2, minus 1) ∷ []) ([] ∷ (1 to 2 at 3 ∷ []) ∷ []) 1 3)
+    ∷ sheet_is plain_money listing (pos 32 ∷ pos 30 ∷ []) (grounds (pos 0 ∷ minus 2 ∷ []) ([] ∷ (1 to 2 at 3 ∷ []) ∷ []) 1 3)
+    ∷ sheet_is strict_money listing ((pos 32, pos 0) ∷ (pos 30, minus 1) ∷ []) (grounds ((pos 0, pos 0) ∷ (minus 2, minus 1) ∷ []) ([] ∷ (1 to 2 at 3 ∷ []) ∷ []) 1 3)
     -- a new book's sheet is empty, and an offer in its first open round is held
-    ∷ Sheet-is plain_money (new (book_of 1)).rounds [] no_grounds
-    ∷ Sheet-is strict_money (new (book_of 1)).rounds [] no_grounds
-    ∷ Judges plain_money (new (book_of 1)) (Opening (5 ∷ []) is Met ∷ Offer (0 ∷ []) is Held (pos 0 ∷ []) ∷ [])
-    ∷ Judges strict_money (new (book_of 1)) (Opening (5 ∷ []) is Met ∷ Offer (0 ∷ []) is Held ((pos 0, pos 0) ∷ []) ∷ [])
+    ∷ sheet_is plain_money (new (book_of 1)).rounds [] no_grounds
+    ∷ sheet_is strict_money (new (book_of 1)).rounds [] no_grounds
+    ∷ judges plain_money (new (book_of 1)) (opening (5 ∷ []) is met ∷ Offer (0 ∷ []) is held (pos 0 ∷ []) ∷ [])
+    ∷ judges strict_money (new (book_of 1)) (opening (5 ∷ []) is met ∷ Offer (0 ∷ []) is held ((pos 0, pos 0) ∷ []) ∷ [])
     -- at prices 10, 20 in two rounds, with bid 2 0 in the first, plain money holds the offer 0 1, and strict money refuses it
-    ∷ Judges plain_money (open_in 2 two_alike) (Offer (0 ∷ 1 ∷ []) is Held (pos 0 ∷ pos 0 ∷ []) ∷ [])
-    ∷ Judges strict_money (open_in 2 two_alike) (Offer (0 ∷ 1 ∷ []) is Contradicts (2 to 1 at 2 ∷ 1 to 2 at 1 ∷ []) ∷ [])
+    ∷ judges plain_money (open_in 2 two_alike) (Offer (0 ∷ 1 ∷ []) is held (pos 0 ∷ pos 0 ∷ []) ∷ [])
+    ∷ judges strict_money (open_in 2 two_alike) (Offer (0 ∷ 1 ∷ []) is contradicts (2 to 1 at 2 ∷ 1 to 2 at 1 ∷ []) ∷ [])
     -- With bids 1 0 0 and 0 1 0 and the offer 0 0 1 every step between two packages and the step back sum to 1. Yet the chain
     -- 3>2@3 2>1@2 1>3@1 sums to -2: refused, at both kinds.
-    ∷ Pairs-sum plain_money (offered three_products (0 ∷ 0 ∷ 1 ∷ [])) (pos 1)
-    ∷ Sums plain_money (offered three_products (0 ∷ 0 ∷ 1 ∷ [])) three_steps (minus 3 ∷ pos 1 ∷ pos 0 ∷ []) (minus 2)
-    ∷ Judges plain_money (open_in 3 three_products) (Offer (0 ∷ 0 ∷ 1 ∷ []) is Contradicts three_steps ∷ [])
-    ∷ Judges strict_money (open_in 3 three_products) (Offer (0 ∷ 0 ∷ 1 ∷ []) is Contradicts three_steps ∷ [])
+    ∷ pairs_sum plain_money (offered three_products (0 ∷ 0 ∷ 1 ∷ [])) (pos 1)
+    ∷ sums plain_money (offered three_products (0 ∷ 0 ∷ 1 ∷ [])) three_steps (minus 3 ∷ pos 1 ∷ pos 0 ∷ []) (minus 2)
+    ∷ judges plain_money (open_in 3 three_products) (Offer (0 ∷ 0 ∷ 1 ∷ []) is contradicts three_steps ∷ [])
+    ∷ judges strict_money (open_in 3 three_products) (Offer (0 ∷ 0 ∷ 1 ∷ []) is contradicts three_steps ∷ [])
     ∷ []
 
 -- every case of the table holds

@@ -5,7 +5,7 @@ use Rattle.std.specs.List.{AllByRecursion}
 use Rattle.ledger.specs.Cleaning.{remade}
 use Rattle.ledger.specs.Judging.{right_products, long_column, fit, enough_memory, unless, first, own_checks, early, Consistent, Judged, met, contradicts, barred}
 use Rattle.ledger.specs.Laws.{LawfulRound, Stands, Lawful}
-use Rattle.ledger.specs.Ledger.{Making, Alike, Dealing, Opening, Offering, Confirming, Withdrawing, Closing, Reading-sheet, Reading-roll, Ledger}
+use Rattle.ledger.specs.Ledger.{Making, Alike, Dealing, opening, offering, confirming, withdrawing, closing, reading_sheet, reading_roll, Ledger}
 use Rattle.ledger.specs.declared.refusal.Refusal.{Refusal}
 use Rattle.ledger.specs.declared.refusal.Refusal.TheVariants.{BadProducts, ShortMemory}
 use Rattle.worth.specs.Group.{Group}
@@ -16,13 +16,13 @@ recolumned m c = record { book = m.book; products = m.products; column = c }
 
 -- the column is looked at only to see that it is long enough
 own_recolumned : (l : Ledger) (c : ℕ) (d : Dealing) → own_checks (remade (recolumned l.making c) l) d ≡ own_checks l d
-own_recolumned l c (Opening prices) = refl
-own_recolumned l c (Offering row heap chain) = refl
-own_recolumned l c (Confirming slip) = refl
-own_recolumned l c (Withdrawing slip) = refl
-own_recolumned l c Closing = refl
-own_recolumned l c (Reading-sheet memory) = refl
-own_recolumned l c (Reading-roll memory) = refl
+own_recolumned l c (opening prices) = refl
+own_recolumned l c (offering row heap chain) = refl
+own_recolumned l c (confirming slip) = refl
+own_recolumned l c (withdrawing slip) = refl
+own_recolumned l c closing = refl
+own_recolumned l c (reading_sheet memory) = refl
+own_recolumned l c (reading_roll memory) = refl
 
 early_alike : (l : Ledger) (n : Making) → fit l.making ≡ true → fit n ≡ true → Alike l.making n → (d : Dealing) → early (remade n l) d ≡ early l d
 early_alike l n fitting fitting' alike d =
@@ -36,13 +36,13 @@ early_alike l n fitting fitting' alike d =
 
 module _ (G : Group) where
   consistent_remade : (l : Ledger) (n : Making) (d : Dealing) → Consistent G l d → Consistent G (remade n l) d
-  consistent_remade l n (Opening prices) c = c
-  consistent_remade l n (Offering row heap chain) c = c
-  consistent_remade l n (Confirming slip) c = c
-  consistent_remade l n (Withdrawing slip) c = c
-  consistent_remade l n Closing c = c
-  consistent_remade l n (Reading-sheet memory) c = c
-  consistent_remade l n (Reading-roll memory) c = c
+  consistent_remade l n (opening prices) c = c
+  consistent_remade l n (offering row heap chain) c = c
+  consistent_remade l n (confirming slip) c = c
+  consistent_remade l n (withdrawing slip) c = c
+  consistent_remade l n closing c = c
+  consistent_remade l n (reading_sheet memory) c = c
+  consistent_remade l n (reading_roll memory) c = c
 
   pub judged_alike : (l : Ledger) (n : Making) → fit l.making ≡ true → fit n ≡ true → Alike l.making n → (d : Dealing) (o : Option Refusal) → Judged G l d o → Judged G (remade n l) d o
   judged_alike l n f g a d o (met e c) = met (early_alike l n f g a d ∙ e) (consistent_remade l n d c)

@@ -8,7 +8,7 @@ use Rattle.ledger.proofs.Rounds.{round_front, round_next, latest_last, offered_l
 use Rattle.ledger.specs.Feeding.{after, Fed, Feeds, nothing, told}
 use Rattle.ledger.specs.Judging.{too_high, fell, latest, refused, checks, early, Consistent, Judged}
 use Rattle.ledger.specs.Laws.{LawfulRound, Rising, LatestUnbid, Stands, Lawful}
-use Rattle.ledger.specs.Ledger.{Making, Dealing, Opening, Offering, Confirming, Withdrawing, Closing, Reading-sheet, Reading-roll, Ledger, new, stand, opened, tried, with_trial, confirmed, withdrawn, closed, moved}
+use Rattle.ledger.specs.Ledger.{Making, Dealing, opening, offering, confirming, withdrawing, closing, reading_sheet, reading_roll, Ledger, new, stand, opened, tried, with_trial, confirmed, withdrawn, closed, moved}
 use Rattle.ledger.specs.Table.{cell}
 use Rattle.ledger.specs.declared.refusal.Refusal.{Refusal}
 use Rattle.ledger.specs.declared.refusal.Refusal.TheVariants.{RowLength, TooManyRounds, RoundOpen, NoRoundOpen, TrialStands, SlipMisfit, BidConfirmed, PriceTooHigh, PriceFell}
@@ -65,9 +65,9 @@ module _ (G : Group) where
   on_trial n Trial rounds trial e h = h
   on_trial n Done rounds trial e h = no_refusal SlipMisfit e
 
-  opening_kept : (l : Ledger) (prices : List ℕ) → Lawful G l → early l (Opening prices) ≡ None → Lawful G (opened l prices)
+  opening_kept : (l : Ledger) (prices : List ℕ) → Lawful G l → early l (opening prices) ≡ None → Lawful G (opened l prices)
   opening_kept l prices h e =
-      let ok = (first_passed (checks l (Opening prices)) e).1.1 in
+      let ok = (first_passed (checks l (opening prices)) e).1.1 in
       let r : Round = record { prices = prices; bid = None } in
       let room = ltb-true (length l.rounds) 128 (test_passed (ltb (length l.rounds) 128) TooManyRounds ok.1.0) in
       let long = length-append l.rounds (r ∷ []) in
@@ -86,9 +86,9 @@ module _ (G : Group) where
         );
       }
 
-  offering_kept : (l : Ledger) (row : List ℕ) (heap chain : ℕ) → Lawful G l → early l (Offering row heap chain) ≡ None → Consistent G l (Offering row heap chain) → Lawful G (tried l row)
+  offering_kept : (l : Ledger) (row : List ℕ) (heap chain : ℕ) → Lawful G l → early l (offering row heap chain) ≡ None → Consistent G l (offering row heap chain) → Lawful G (tried l row)
   offering_kept l row heap chain h e c =
-      let ok = (first_passed (checks l (Offering row heap chain)) e).1.1 in
+      let ok = (first_passed (checks l (offering row heap chain)) e).1.1 in
       record {
         few = h.few;
         rounds = h.rounds;
@@ -142,13 +142,13 @@ module _ (G : Group) where
   same_cell Done e = e
 
   met_kept : (l : Ledger) (d : Dealing) → Lawful G l → early l d ≡ None → Consistent G l d → Lawful G (moved l d)
-  met_kept l (Opening prices) h e c = opening_kept l prices h e
-  met_kept l (Offering row heap chain) h e c = offering_kept l row heap chain h e c
-  met_kept l (Confirming slip) h e c = confirming_kept l h (first_passed (checks l (Confirming slip)) e).1.1.0
-  met_kept l (Withdrawing slip) h e c = withdrawing_kept l h (same_cell l.state (first_passed (checks l (Withdrawing slip)) e).1.1.0)
-  met_kept l Closing h e c = closing_kept l h (first_passed (checks l Closing) e).1.1.0
-  met_kept l (Reading-sheet memory) h e c = h
-  met_kept l (Reading-roll memory) h e c = h
+  met_kept l (opening prices) h e c = opening_kept l prices h e
+  met_kept l (offering row heap chain) h e c = offering_kept l row heap chain h e c
+  met_kept l (confirming slip) h e c = confirming_kept l h (first_passed (checks l (confirming slip)) e).1.1.0
+  met_kept l (withdrawing slip) h e c = withdrawing_kept l h (same_cell l.state (first_passed (checks l (withdrawing slip)) e).1.1.0)
+  met_kept l closing h e c = closing_kept l h (first_passed (checks l closing) e).1.1.0
+  met_kept l (reading_sheet memory) h e c = h
+  met_kept l (reading_roll memory) h e c = h
 
   after_kept : (l : Ledger) (d : Dealing) (o : Option Refusal) → Judged G l d o → Lawful G l → Lawful G (after l d o)
   after_kept l d None j h = let ok = met_passed G j in met_kept l d h ok.0 ok.1
@@ -168,13 +168,13 @@ module _ (G : Group) where
   lawful m ds l f = feeds_kept f (new_lawful m)
 
   after_making : (l : Ledger) (d : Dealing) (o : Option Refusal) → (after l d o).making ≡ l.making
-  after_making l (Opening prices) None = refl
-  after_making l (Offering row heap chain) None = refl
-  after_making l (Confirming slip) None = refl
-  after_making l (Withdrawing slip) None = refl
-  after_making l Closing None = refl
-  after_making l (Reading-sheet memory) None = refl
-  after_making l (Reading-roll memory) None = refl
+  after_making l (opening prices) None = refl
+  after_making l (offering row heap chain) None = refl
+  after_making l (confirming slip) None = refl
+  after_making l (withdrawing slip) None = refl
+  after_making l closing None = refl
+  after_making l (reading_sheet memory) None = refl
+  after_making l (reading_roll memory) None = refl
   after_making l d (Some r) = refl
 
   feeds_making : {l last : Ledger} {ds : List Dealing} → Feeds G l ds last → last.making ≡ l.making

@@ -9,7 +9,7 @@ use Rattle.ledger.specs.Cleaning.{clean, settled, remade, Meets}
 use Rattle.ledger.specs.Feeding.{Feeds}
 use Rattle.ledger.specs.Judging.{fit, early, Consistent, Judged, met, contradicts, barred}
 use Rattle.ledger.specs.Laws.{LedgerLaws}
-use Rattle.ledger.specs.Ledger.{Making, Alike, Dealing, Opening, Offering, Confirming, Withdrawing, Closing, Reading-sheet, Reading-roll, Ledger, new}
+use Rattle.ledger.specs.Ledger.{Making, Alike, Dealing, opening, offering, confirming, withdrawing, closing, reading_sheet, reading_roll, Ledger, new}
 use Rattle.ledger.specs.declared.refusal.Refusal.{Refusal}
 use Rattle.chains.proofs.Places.{within, explained_by_place, explained_by_row}
 use Rattle.chains.specs.Chains.{Explained}
@@ -43,13 +43,13 @@ module _ (G : Group) (L : Laws G) where
       ]
 
   consistent_or_not : (l : Ledger) (d : Dealing) → Dec (Consistent G l d)
-  consistent_or_not l (Opening prices) = yes tt
-  consistent_or_not l (Offering row heap chain) = explained_or_not (offered l.rounds row)
-  consistent_or_not l (Confirming slip) = yes tt
-  consistent_or_not l (Withdrawing slip) = yes tt
-  consistent_or_not l Closing = yes tt
-  consistent_or_not l (Reading-sheet memory) = yes tt
-  consistent_or_not l (Reading-roll memory) = yes tt
+  consistent_or_not l (opening prices) = yes tt
+  consistent_or_not l (offering row heap chain) = explained_or_not (offered l.rounds row)
+  consistent_or_not l (confirming slip) = yes tt
+  consistent_or_not l (withdrawing slip) = yes tt
+  consistent_or_not l closing = yes tt
+  consistent_or_not l (reading_sheet memory) = yes tt
+  consistent_or_not l (reading_roll memory) = yes tt
 
   judged : (l : Ledger) (d : Dealing) → (o : Option Refusal) × Judged G l d o
   judged l d = go (early l d) refl (consistent_or_not l d)

@@ -4,7 +4,7 @@ use Rattle.std.proofs.ByRecursion.{All-weaker}
 use Rattle.std.specs.List.{AllByRecursion}
 use Rattle.ledger.proofs.Checks.{no_refusal}
 use Rattle.ledger.specs.Judging.{unless, refused, first, own_checks, checks, early, Consistent, Judged, met, contradicts, barred}
-use Rattle.ledger.specs.Ledger.{Dealing, Opening, Offering, Confirming, Withdrawing, Closing, Reading-sheet, Reading-roll, Ledger}
+use Rattle.ledger.specs.Ledger.{Dealing, opening, offering, confirming, withdrawing, closing, reading_sheet, reading_roll, Ledger}
 use Rattle.ledger.specs.Refusals.{refusal_number}
 use Rattle.ledger.specs.Table.{cell}
 use Rattle.ledger.specs.declared.refusal.Refusal.{Refusal}
@@ -66,28 +66,28 @@ close_cell Trial = omega arith
 close_cell Done = tt
 
 own_in_order : (l : Ledger) (d : Dealing) → InOrder 2 (own_checks l d)
-own_in_order l (Opening prices) =
+own_in_order l (opening prices) =
     then 3 (omega arith) (test_between _ RowLength 2 (omega arith))
     (then 4 (omega arith) (test_between _ TooManyRounds 3 (omega arith))
     (then 5 (omega arith) (open_cell l.state)
     (then 6 (omega arith) (test_between _ PriceTooHigh 5 (omega arith))
     (then 7 (omega arith) (test_between _ PriceFell 6 (omega arith))
     ended))))
-own_in_order l (Offering row heap chain) =
+own_in_order l (offering row heap chain) =
     then 3 (omega arith) (test_between _ RowLength 2 (omega arith))
     (then 11 (omega arith) (offer_cell l.state)
     ended)
-own_in_order l (Confirming slip) =
+own_in_order l (confirming slip) =
     then 10 (omega arith) (confirm_cell l.state)
     (then 10 (omega arith) (test_between _ SlipMisfit 10 (omega arith))
     ended)
-own_in_order l (Withdrawing slip) =
+own_in_order l (withdrawing slip) =
     then 10 (omega arith) (withdraw_cell l.state)
     (then 10 (omega arith) (test_between _ SlipMisfit 10 (omega arith))
     ended)
-own_in_order l Closing = then 9 (omega arith) (close_cell l.state) ended
-own_in_order l (Reading-sheet memory) = ended
-own_in_order l (Reading-roll memory) = ended
+own_in_order l closing = then 9 (omega arith) (close_cell l.state) ended
+own_in_order l (reading_sheet memory) = ended
+own_in_order l (reading_roll memory) = ended
 
 checks_in_order : (l : Ledger) (d : Dealing) → InOrder 1 (checks l d)
 checks_in_order l d =

@@ -5,10 +5,10 @@ use Rattle.std.proofs.lemmas.Bool.{both_ways, lt-ltb, le-leb, eq-eqb, and_parts,
 use Rattle.ledger.proofs.Checks.{Passed, passed_first, passes, bounded_low}
 use Rattle.ledger.proofs.Explained.{explained_front}
 use Rattle.ledger.proofs.Rounds.{round_front, round_next, latest_cons, offered_last}
-use Rattle.ledger.specs.Cleaning.{Entry, Opens, Shuts, bid_entries, round_entries, entries, is_shut, clean, settled_state, settled, BidMet, Meets, all_met, opens, bids, shuts}
+use Rattle.ledger.specs.Cleaning.{Entry, opens, shuts, bid_entries, round_entries, entries, is_shut, clean, settled_state, settled, BidMet, Meets, all_met, opens_met, bids_met, shuts_met}
 use Rattle.ledger.specs.Judging.{right_products, long_column, fit, enough_memory, too_high, fell, latest, fits, refused, own_checks, checks, Consistent, Judged, met}
 use Rattle.ledger.specs.Laws.{LawfulRound, Stands, Lawful}
-use Rattle.ledger.specs.Ledger.{Dealing, Opening, Offering, Confirming, Closing, Ledger, new, tried}
+use Rattle.ledger.specs.Ledger.{Dealing, opening, offering, confirming, closing, Ledger, new, tried}
 use Rattle.ledger.specs.Table.{cell}
 use Rattle.ledger.specs.declared.refusal.Refusal.TheVariants.{BadProducts, ShortMemory, RowLength, TooManyRounds, PriceTooHigh, PriceFell, SlipMisfit}
 use Rattle.ledger.specs.declared.state.Call.TheVariants as call
@@ -65,8 +65,8 @@ module _ (G : Group) (l : Ledger) (fitting : fit l.making ≡ true) (lawful : La
       let memory = passes (long_column k.making && enough_memory d) ShortMemory long in
       met (passed_first (checks k d) (products, (memory, own))) c
 
-  close_met : (s : State) (rounds : List Round) → refused (cell s call.Close) ≡ None → Judged G (at s rounds) Closing None
-  close_met s rounds e = met_by (at s rounds) Closing refl refl (e, tt) tt
+  close_met : (s : State) (rounds : List Round) → refused (cell s call.Close) ≡ None → Judged G (at s rounds) closing None
+  close_met s rounds e = met_by (at s rounds) closing refl refl (e, tt) tt
 
   -- round r, after the rounds done and before the rest
   module _ (done : List Round) (r : Round) (rest : List Round) (parts : whole ≡ done ++ r ∷ rest) where
@@ -95,13 +95,13 @@ module _ (G : Group) (l : Ledger) (fitting : fit l.making ≡ true) (lawful : La
         go [] e = refl
         go (q ∷ before) e = subst (λ rs. fell (latest rs).prices r.prices ≡ false) e (no_fall_after (omega (arith, ap length e)))
 
-    open_met : Judged G (at Shut done) (Opening r.prices) None
+    open_met : Judged G (at Shut done) (opening r.prices) None
     open_met =
         let long = passes (eqb (length r.prices) l.making.products) RowLength (eq-eqb _ _ lawful_round.priced) in
         let room = passes (ltb (length done) 128) TooManyRounds (lt-ltb _ _ (omega (arith, whole_long, lawful.few))) in
         let low = passes (not (too_high r.prices)) PriceTooHigh (not_from_false _ (bounded_low r.prices lawful_round.bounded)) in
         let risen = passes (not (fell (latest done).prices r.prices)) PriceFell (not_from_false _ no_fall) in
-        met_by (at Shut done) (Opening r.prices) refl refl (long, (room, (refl, (low, (risen, tt))))) tt
+        met_by (at Shut done) (opening r.prices) refl refl (long, (room, (refl, (low, (risen, tt))))) tt
 
     -- the rounds up to this one, which has no bid yet
     abbrev unbid : List Round
@@ -119,37 +119,37 @@ module _ (G : Group) (l : Ledger) (fitting : fit l.making ≡ true) (lawful : La
         let sized = subst (λ b. IfSome b (λ x. length x ≡ l.making.products)) e lawful_round.sized in
         let long = passes (eqb (length row) l.making.products) RowLength (eq-eqb _ _ sized) in
         record {
-          offer = λ heap chain h c. met_by (at Open unbid) (Offering row heap chain) refl
+          offer = λ heap chain h c. met_by (at Open unbid) (offering row heap chain) refl
               (and_from (leb 128 heap) (leb 128 chain) (le-leb 128 heap h) (le-leb 128 chain c))
               (long, (refl, tt))
               (subst (Explained G) (sym (with_bid row e)) explained_so_far);
           confirmation = λ slip book present.
               let same = and_from (eqb slip.book l.making.book) (eqb slip.round (length unbid)) (eq-eqb _ _ book) (eq-eqb _ _ present) in
-              met_by (tried (at Open unbid) row) (Confirming slip) refl refl (refl, (passes (fits (at Open unbid) slip) SlipMisfit same, tt)) tt;
+              met_by (tried (at Open unbid) row) (confirming slip) refl refl (refl, (passes (fits (at Open unbid) slip) SlipMisfit same, tt)) tt;
         }
 
     -- the entries of the round, before others
     round_met : (more : List Entry) (last : Ledger) → Meets G (at (bid_state r.bid) (done ++ r ∷ [])) more last → Meets G (at Shut done) (round_entries r ++ more) last
     round_met more last next = go r.bid refl next
       where
-        go : (b : Option (List ℕ)) → r.bid ≡ b → Meets G (at (bid_state b) (done ++ r ∷ [])) more last → Meets G (at Shut done) (Opens r.prices ∷ bid_entries b ++ more) last
-        go None e k = opens open_met (subst (λ b. Meets G (at Open (done ++ record { prices = r.prices; bid = b } ∷ [])) more last) e k)
-        go (Some row) e k = opens open_met (bids (bid_met row e) (subst (λ rs. Meets G (at Done rs) more last) (sym (with_bid row e)) k))
+        go : (b : Option (List ℕ)) → r.bid ≡ b → Meets G (at (bid_state b) (done ++ r ∷ [])) more last → Meets G (at Shut done) (opens r.prices ∷ bid_entries b ++ more) last
+        go None e k = opens_met open_met (subst (λ b. Meets G (at Open (done ++ record { prices = r.prices; bid = b } ∷ [])) more last) e k)
+        go (Some row) e k = opens_met open_met (bids_met (bid_met row e) (subst (λ rs. Meets G (at Done rs) more last) (sym (with_bid row e)) k))
 
   -- an open round can be shut
-  bid_shuts : (b : Option (List ℕ)) (rounds : List Round) → Judged G (at (bid_state b) rounds) Closing None
+  bid_shuts : (b : Option (List ℕ)) (rounds : List Round) → Judged G (at (bid_state b) rounds) closing None
   bid_shuts None rounds = close_met Open rounds refl
   bid_shuts (Some row) rounds = close_met Done rounds refl
 
   -- the entries of the rest, after the rounds done
   rest_met : (shut : Bool) (done rest : List Round) → whole ≡ done ++ rest → Meets G (at Shut done) (entries shut rest) (at (state_after shut rest) whole)
   rest_met shut done [] parts = subst (λ rs. Meets G (at Shut done) [] (at Shut rs)) (sym (append-nil done) ∙ sym parts) all_met
-  rest_met true done (r ∷ []) parts = round_met done r [] parts (Shuts ∷ []) (at Shut whole)
-      (subst (λ rs. Meets G (at (bid_state r.bid) (done ++ r ∷ [])) (Shuts ∷ []) (at Shut rs)) (sym parts) (shuts (bid_shuts r.bid (done ++ r ∷ [])) all_met))
+  rest_met true done (r ∷ []) parts = round_met done r [] parts (shuts ∷ []) (at Shut whole)
+      (subst (λ rs. Meets G (at (bid_state r.bid) (done ++ r ∷ [])) (shuts ∷ []) (at Shut rs)) (sym parts) (shuts_met (bid_shuts r.bid (done ++ r ∷ [])) all_met))
   rest_met false done (r ∷ []) parts = round_met done r [] parts [] (at (bid_state r.bid) whole)
       (subst (λ rs. Meets G (at (bid_state r.bid) (done ++ r ∷ [])) [] (at (bid_state r.bid) rs)) (sym parts) all_met)
-  rest_met shut done (r ∷ (s ∷ rest)) parts = round_met done r (s ∷ rest) parts (Shuts ∷ entries shut (s ∷ rest)) (at (state_after shut (s ∷ rest)) whole)
-      (shuts (bid_shuts r.bid (done ++ r ∷ [])) (rest_met shut (done ++ r ∷ []) (s ∷ rest) (parts ∙ sym (append_assoc done (r ∷ []) (s ∷ rest)))))
+  rest_met shut done (r ∷ (s ∷ rest)) parts = round_met done r (s ∷ rest) parts (shuts ∷ entries shut (s ∷ rest)) (at (state_after shut (s ∷ rest)) whole)
+      (shuts_met (bid_shuts r.bid (done ++ r ∷ [])) (rest_met shut (done ++ r ∷ []) (s ∷ rest) (parts ∙ sym (append_assoc done (r ∷ []) (s ∷ rest)))))
 
 -- the state after the clean list
 state_settled : (G : Group) (n : ℕ) (s : State) (rounds : List Round) (trial : Option (List ℕ)) → Stands G n s rounds trial → state_after (is_shut s) rounds ≡ settled_state s

@@ -1,7 +1,7 @@
 -- The clean list of a ledger: the same book, dealt with as little as can be.
 use Rattle.std.specs.Prelude.{◌≡◌, ℕ, ◌≤◌, Bool, true, false, cond, List, [], ◌∷◌, ◌++◌, length, Some, None, Option}
 use Rattle.ledger.specs.Judging.{Judged}
-use Rattle.ledger.specs.Ledger.{Making, Slip, Opening, Offering, Confirming, Closing, Ledger, opened, tried, confirmed, closed}
+use Rattle.ledger.specs.Ledger.{Making, Slip, opening, offering, confirming, closing, Ledger, opened, tried, confirmed, closed}
 use Rattle.ledger.specs.declared.state.State.{State}
 use Rattle.ledger.specs.declared.state.State.TheVariants.{Shut, Open, Trial, Done}
 use Rattle.chains.specs.Rounds.{Round}
@@ -9,23 +9,23 @@ use Rattle.worth.specs.Group.{Group}
 
 -- an entry of a clean list; a bid stands for its offer and for the confirmation with the slip of this offer
 pub data Entry : Type 0 where
-  Opens : (prices : List ℕ) → Entry
-  Bids : (row : List ℕ) → Entry
-  Shuts : Entry
+  opens : (prices : List ℕ) → Entry
+  bids : (row : List ℕ) → Entry
+  shuts : Entry
 
 abbrev pub bid_entries : Option (List ℕ) → List Entry
 bid_entries None = []
-bid_entries (Some row) = Bids row ∷ []
+bid_entries (Some row) = bids row ∷ []
 
 -- the opening of a round, and its bid if it has one
 abbrev pub round_entries : Round → List Entry
-round_entries r = Opens r.prices ∷ bid_entries r.bid
+round_entries r = opens r.prices ∷ bid_entries r.bid
 
 -- all rounds in order; every one but the last is shut, and the last one if `shut` says so
 abbrev pub entries : Bool → List Round → List Entry
 entries shut [] = []
-entries shut (r ∷ []) = round_entries r ++ cond shut (Shuts ∷ []) []
-entries shut (r ∷ (s ∷ rounds)) = round_entries r ++ Shuts ∷ entries shut (s ∷ rounds)
+entries shut (r ∷ []) = round_entries r ++ cond shut (shuts ∷ []) []
+entries shut (r ∷ (s ∷ rounds)) = round_entries r ++ shuts ∷ entries shut (s ∷ rounds)
 
 abbrev pub is_shut : State → Bool
 is_shut Shut = true
@@ -56,15 +56,15 @@ module _ (G : Group) where
   -- a bid that is met: its offer with every memory of at least the figure, and its confirmation with every slip of the
   -- book's number and the present round
   pub record BidMet (l : Ledger) (row : List ℕ) : Type 0 where
-    pub offer : (heap chain : ℕ) → 128 ≤ heap → 128 ≤ chain → Judged G l (Offering row heap chain) None
-    pub confirmation : (slip : Slip) → slip.book ≡ l.making.book → slip.round ≡ length l.rounds → Judged G (tried l row) (Confirming slip) None
+    pub offer : (heap chain : ℕ) → 128 ≤ heap → 128 ≤ chain → Judged G l (offering row heap chain) None
+    pub confirmation : (slip : Slip) → slip.book ≡ l.making.book → slip.round ≡ length l.rounds → Judged G (tried l row) (confirming slip) None
 
   -- every entry of a list is met, from the ledger l on, which is at last the third
   pub data Meets : Ledger → List Entry → Ledger → Type 0 where
     all_met : {l : Ledger} → Meets l [] l
-    opens : {l last : Ledger} {prices : List ℕ} {rest : List Entry}
-        → Judged G l (Opening prices) None → Meets (opened l prices) rest last → Meets l (Opens prices ∷ rest) last
-    bids : {l last : Ledger} {row : List ℕ} {rest : List Entry}
-        → BidMet l row → Meets (confirmed (tried l row)) rest last → Meets l (Bids row ∷ rest) last
-    shuts : {l last : Ledger} {rest : List Entry}
-        → Judged G l Closing None → Meets (closed l) rest last → Meets l (Shuts ∷ rest) last
+    opens_met : {l last : Ledger} {prices : List ℕ} {rest : List Entry}
+        → Judged G l (opening prices) None → Meets (opened l prices) rest last → Meets l (opens prices ∷ rest) last
+    bids_met : {l last : Ledger} {row : List ℕ} {rest : List Entry}
+        → BidMet l row → Meets (confirmed (tried l row)) rest last → Meets l (bids row ∷ rest) last
+    shuts_met : {l last : Ledger} {rest : List Entry}
+        → Judged G l closing None → Meets (closed l) rest last → Meets l (shuts ∷ rest) last

@@ -1,6 +1,6 @@
 -- Which dealings are refused, and under which number, read over what the ledger keeps.
 use Rattle.std.specs.Prelude.{◌≡◌, ℕ, ◌-◌, Bool, true, false, cond, not, ◌&&◌, ◌||◌, List, [], ◌∷◌, length, Some, None, Ok, Err, Option, Result, ◌==◌, nat_le, nat_lt}
-use Rattle.ledger.specs.Ledger.{Making, Slip, Dealing, Opening, Offering, Confirming, Withdrawing, Closing, Reading-sheet, Reading-roll, Ledger}
+use Rattle.ledger.specs.Ledger.{Making, Slip, Dealing, opening, offering, confirming, withdrawing, closing, reading_sheet, reading_roll, Ledger}
 use Rattle.ledger.specs.Table.{cell}
 use Rattle.ledger.specs.declared.refusal.Refusal.{Refusal}
 use Rattle.ledger.specs.declared.refusal.Refusal.TheVariants.{BadProducts, ShortMemory, RowLength, TooManyRounds, PriceTooHigh, PriceFell, SlipMisfit, Contradiction}
@@ -24,13 +24,13 @@ fit m = right_products m && long_column m
 
 -- every memory that is handed in has its figure: entries of the heap, records of the chain, worths, bytes
 abbrev pub enough_memory : Dealing → Bool
-enough_memory (Opening prices) = true
-enough_memory (Offering row heap chain) = nat_le 128 heap && nat_le 128 chain
-enough_memory (Confirming slip) = true
-enough_memory (Withdrawing slip) = true
-enough_memory Closing = true
-enough_memory (Reading-sheet memory) = nat_le 128 memory
-enough_memory (Reading-roll memory) = nat_le 2048 memory
+enough_memory (opening prices) = true
+enough_memory (offering row heap chain) = nat_le 128 heap && nat_le 128 chain
+enough_memory (confirming slip) = true
+enough_memory (withdrawing slip) = true
+enough_memory closing = true
+enough_memory (reading_sheet memory) = nat_le 128 memory
+enough_memory (reading_roll memory) = nat_le 2048 memory
 
 -- one entry for each product
 abbrev pub right_length : Ledger → List ℕ → Bool
@@ -72,19 +72,19 @@ first (Some r ∷ rest) = Some r
 
 -- the checks of a dealing beside those of the making and the memories, in the order of the numbers
 abbrev pub own_checks : Ledger → Dealing → List (Option Refusal)
-own_checks l (Opening prices) =
+own_checks l (opening prices) =
     unless (right_length l prices) RowLength
     ∷ unless (nat_lt (length l.rounds) 128) TooManyRounds
     ∷ refused (cell l.state call.Open)
     ∷ unless (not (too_high prices)) PriceTooHigh
     ∷ unless (not (fell (latest l.rounds).prices prices)) PriceFell
     ∷ []
-own_checks l (Offering row heap chain) = unless (right_length l row) RowLength ∷ refused (cell l.state call.Offer) ∷ []
-own_checks l (Confirming slip) = refused (cell l.state call.Confirm) ∷ unless (fits l slip) SlipMisfit ∷ []
-own_checks l (Withdrawing slip) = refused (cell l.state call.Withdraw) ∷ unless (fits l slip) SlipMisfit ∷ []
-own_checks l Closing = refused (cell l.state call.Close) ∷ []
-own_checks l (Reading-sheet memory) = []
-own_checks l (Reading-roll memory) = []
+own_checks l (offering row heap chain) = unless (right_length l row) RowLength ∷ refused (cell l.state call.Offer) ∷ []
+own_checks l (confirming slip) = refused (cell l.state call.Confirm) ∷ unless (fits l slip) SlipMisfit ∷ []
+own_checks l (withdrawing slip) = refused (cell l.state call.Withdraw) ∷ unless (fits l slip) SlipMisfit ∷ []
+own_checks l closing = refused (cell l.state call.Close) ∷ []
+own_checks l (reading_sheet memory) = []
+own_checks l (reading_roll memory) = []
 
 -- all checks of a dealing but that for a contradiction, in the order of the numbers
 abbrev pub checks : Ledger → Dealing → List (Option Refusal)
@@ -100,13 +100,13 @@ early l d = first (checks l d)
 module _ (G : Group) where
   -- some worths make all confirmed bids, and the offered row as the bid of the latest round, best choices
   abbrev pub Consistent : Ledger → Dealing → Type 0
-  Consistent l (Opening prices) = Unit {0}
-  Consistent l (Offering row heap chain) = Explained G (offered l.rounds row)
-  Consistent l (Confirming slip) = Unit {0}
-  Consistent l (Withdrawing slip) = Unit {0}
-  Consistent l Closing = Unit {0}
-  Consistent l (Reading-sheet memory) = Unit {0}
-  Consistent l (Reading-roll memory) = Unit {0}
+  Consistent l (opening prices) = Unit {0}
+  Consistent l (offering row heap chain) = Explained G (offered l.rounds row)
+  Consistent l (confirming slip) = Unit {0}
+  Consistent l (withdrawing slip) = Unit {0}
+  Consistent l closing = Unit {0}
+  Consistent l (reading_sheet memory) = Unit {0}
+  Consistent l (reading_roll memory) = Unit {0}
 
   -- how a dealing is judged: it is met, it is a contradiction, or an earlier refusal is told
   pub data Judged (l : Ledger) (d : Dealing) : Option Refusal → Type 0 where

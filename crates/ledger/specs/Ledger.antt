@@ -24,13 +24,13 @@ pub record Slip : Type 0 where
 
 -- a call to a book with everything that it is handed: rows, the lengths of memories, slips
 pub data Dealing : Type 0 where
-  Opening : (prices : List ℕ) → Dealing
-  Offering : (row : List ℕ) (heap chain : ℕ) → Dealing
-  Confirming : (slip : Slip) → Dealing
-  Withdrawing : (slip : Slip) → Dealing
-  Closing : Dealing
-  Reading-sheet : (memory : ℕ) → Dealing
-  Reading-roll : (memory : ℕ) → Dealing
+  opening : (prices : List ℕ) → Dealing
+  offering : (row : List ℕ) (heap chain : ℕ) → Dealing
+  confirming : (slip : Slip) → Dealing
+  withdrawing : (slip : Slip) → Dealing
+  closing : Dealing
+  reading_sheet : (memory : ℕ) → Dealing
+  reading_roll : (memory : ℕ) → Dealing
 
 -- A ledger follows a book from the outside: it is told every dealing, and never what the book answers.
 pub record Ledger : Type 0 where
@@ -76,10 +76,10 @@ closed l = stand l Shut l.rounds l.trial
 
 -- what a dealing that is met does
 abbrev pub moved : Ledger → Dealing → Ledger
-moved l (Opening prices) = opened l prices
-moved l (Offering row heap chain) = tried l row
-moved l (Confirming slip) = confirmed l
-moved l (Withdrawing slip) = withdrawn l
-moved l Closing = closed l
-moved l (Reading-sheet memory) = l
-moved l (Reading-roll memory) = l
+moved l (opening prices) = opened l prices
+moved l (offering row heap chain) = tried l row
+moved l (confirming slip) = confirmed l
+moved l (withdrawing slip) = withdrawn l
+moved l closing = closed l
+moved l (reading_sheet memory) = l
+moved l (reading_roll memory) = l

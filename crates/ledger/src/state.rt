@@ -32,6 +32,7 @@ impl State {
     pub fn next(self, call: Call) -> Result<State, Refusal>
         ensures { result ≡ cell self call }
     {
+        // An arm for each cell of the state table, in its order.
         match (self, call) {
             (State::Shut, Call::Open) => Ok(State::Open),
             (State::Open, Call::Open) => Err(Refusal::RoundOpen),
