@@ -71,3 +71,40 @@ fn names_the_line_where_a_heading_is_missing(rt: HostRuntime) {
         })
     );
 }
+
+#[test]
+fn says_why_a_line_is_refused(rt: HostRuntime) -> Result<(), Fail> {
+    let said = [
+        (LineError::NoHeading, "the text ends before its heading"),
+        (
+            LineError::NotAHeading,
+            "expected a heading, as `book 7 products 2 kind plain`",
+        ),
+        (LineError::BadProducts, "a sale has 1 to 16 products"),
+        (
+            LineError::UnknownRecord,
+            "unknown record: expected O, T, C, W, S or V",
+        ),
+        (LineError::NotANumber, "expected a number, digits only"),
+        (LineError::TooLarge, "the number is above its range"),
+        (
+            LineError::WrongCount,
+            "too few words or too many: a row has one number for each product",
+        ),
+        (
+            LineError::TapeFull,
+            "the tape would be longer than 32,768 bytes",
+        ),
+    ];
+    for (error, text) in said {
+        let shown = format!(in rt.alloc(); "{error}")?;
+        assert!(rt; shown.as_str() == text);
+    }
+    let bad = BadLine {
+        line: 2,
+        error: LineError::NotANumber,
+    };
+    let shown = format!(in rt.alloc(); "{bad}")?;
+    assert!(rt; shown.as_str() == "line 2: expected a number, digits only");
+    Ok(())
+}

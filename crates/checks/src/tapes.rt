@@ -1,6 +1,6 @@
 use std::test::Fail;
 use tape::error::TapeError;
-use tape::header::{Header, Kind};
+use tape::header::{Header, Kind, UnknownKind};
 use tape::number::{write_number, write_signed};
 use tape::read::{read_header, read_record};
 use tape::record::Record;
@@ -35,7 +35,7 @@ fn longest_tape(rt: HostRuntime) {
 fn front(products: u8, kind: u8) -> u8 {
     match read_header(&[0x52, 0x50, 0x42, 0, 1, 0, 7, products, kind]) {
         Ok(_) => 0,
-        Err(e) => e.number(),
+        Err(error) => u8::from(error),
     }
 }
 
@@ -47,6 +47,15 @@ fn products_and_kinds(rt: HostRuntime) {
     assert_eq!(rt; front(17, 1), 14);
     assert_eq!(rt; front(2, 1), 0);
     assert_eq!(rt; front(2, 2), 14);
+}
+
+#[test]
+fn refusals_have_a_text(rt: HostRuntime) -> Result<(), Fail> {
+    let cut_off = format!(in rt.alloc(); "{}", TapeError::CutOff)?;
+    assert!(rt; cut_off.as_str() == "a record is cut off by the end of the tape");
+    let unknown = format!(in rt.alloc(); "{}", UnknownKind(2))?;
+    assert!(rt; unknown.as_str() == "no kind of worth has the number 2");
+    Ok(())
 }
 
 #[test]
@@ -82,7 +91,7 @@ fn letter_of(tape: &[u8]) -> (u8, usize) {
             (letter, rest.len())
         }
         Ok(None) => (0, 0),
-        Err(e) => (e.number(), 0),
+        Err(error) => (u8::from(error), 0),
     }
 }
 

@@ -1,5 +1,5 @@
 -- The listing of a tape, line by line.
-use Rattle.std.proofs.Common.{◌≡◌, ℕ, ◌-◌, true, cond, List, [], ◌∷◌, ◌++◌, length, replicate, is_ok, is_err, Ok, Err, Option, Result, sym, refl, ap, ◌∙◌, subst, append_assoc, append-nil, arith}
+use Rattle.std.proofs.Common.{◌≡◌, ℕ, ◌-◌, cond, List, [], ◌∷◌, ◌++◌, length, replicate, is_ok, Ok, Err, Option, Result, sym, refl, ap, ◌∙◌, subst, append_assoc, append-nil}
 use Rattle.listing.specs.Tapes.{Appended, break_text, Records, goes, RecordsListed}
 use Rattle.listing.specs.Text.{entries_text, entry_text, line}
 use Rattle.std.proofs.lemmas.List.{take_at}
@@ -26,9 +26,6 @@ pub record Listing (n : ℕ) (t rest old text : List ℕ) : Type 0 where
   pub said : text ≡ old ++ entries_text entries
   pub held : (es : List Entry) (end : Option TapeError) → Records n rest es end → Records n t (entries ++ es) end
 
-pub listing_none : (n : ℕ) (t old : List ℕ) → Listing n t t old old
-listing_none n t old = record { entries = []; said = sym (append-nil old); held = λ es end r. r }
-
 pub listing_more : (n : ℕ) (t rest more old text after : List ℕ) (e : Entry) → Fits n e → rest ≡ entry_bytes e ++ more → after ≡ text ++ line (entry_text e)
     → Listing n t rest old text → Listing n t more old after
 listing_more n t rest more old text after e fits front added l = record {
@@ -52,10 +49,6 @@ pub appended : {E : Type 0} (P : List ℕ → Type 0) (old part added text after
     → text ≡ old ++ part → after ≡ cond (is_ok r) (text ++ added) text → P (part ++ added) → Appended P old r after
 appended P old part added text after (Ok _) e p h = (part ++ added, h, p ∙ ap (λ s. s ++ added) e ∙ append_assoc old part added)
 appended P old part added text after (Err _) e p h = (part, p ∙ e)
-
-pub appended_refused : {E : Type 0} (P : List ℕ → Type 0) (old part after : List ℕ) (r : Result (Unit {0}) E) → is_err r ≡ true → after ≡ old ++ part → Appended P old r after
-appended_refused P old part after (Ok _) e p = let z : ◌≡◌ {A = ℕ} 0 1 = cc in absurd (omega arith)
-appended_refused P old part after (Err _) e p = (part, p)
 
 -- what was put behind a text whose end was put there before
 pub appended_behind : {E : Type 0} (P Q : List ℕ → Type 0) (old front text after : List ℕ) (r : Result (Unit {0}) E) → text ≡ old ++ front

@@ -1,40 +1,23 @@
 -- Lines, and the tape that they describe.
-use Rattle.std.proofs.Common.{◌≡◌, ℕ, ◌+◌, ◌<◌, ◌≤◌, eqb, List, [], ◌∷◌, ◌++◌, length, get_or, take, drop, Some, sym, refl, ap, ◌∙◌, subst, inl, inr, append_assoc, append-nil, arith}
+use Rattle.std.proofs.Common.{◌≡◌, ℕ, ◌+◌, ◌<◌, ◌≤◌, List, [], ◌∷◌, ◌++◌, length, take, Some, Ok, Err, Option, Result, MatchResult, IsErrAnd, sym, refl, ap, ◌∙◌, subst, inl, inr, append_assoc, append-nil, arith}
 use Rattle.listing.proofs.Sayings.{heading_one, says_one}
-use Rattle.listing.proofs.Spelling.{ended_some}
-use Rattle.listing.specs.Lines.{Describe, Enter, lines, lines_from, said, Says, SaysHeading}
-use Rattle.listing.specs.Making.{entries_bytes, Entered, NoHeading, NoRoom, tape_bytes, Wordless}
+use Rattle.listing.specs.Lines.{Describe, Enter, lines, said, Says, SaysHeading}
+use Rattle.listing.specs.Making.{entries_bytes, Entered, NoHeading, NoRoom, tape_bytes, Wordless, WritesLine}
+use Rattle.listing.specs.declared.error.BadLine.{BadLine}
+use Rattle.std.specs.Result.{result_ok}
 use Rattle.std.proofs.ByRecursion.{All-push}
-use Rattle.std.proofs.lemmas.List.{at_drop_more, drop_all, length-append, length_push, take_all, take_at, take_more}
-use Rattle.std.proofs.lemmas.Bool.{cond-false, cond-true, eq-eqb, ne_eqb}
+use Rattle.std.proofs.lemmas.List.{length-append, length_push, take_at}
 use Rattle.tape.proofs.Laid.{laid_append, length_laid}
 use Rattle.tape.specs.Format.{Entry, entry_bytes}
 use Rattle.tape.specs.Writing.{laid, Wrote}
 use Rattle.tape.specs.declared.header.Kind.{Kind}
 
--- a line that has begun goes on
-pub line_goes : (xs : List ℕ) (i : ℕ) → i < length xs → (get_or xs i 0 ≡ 10 → ⊥) → lines_from (take i xs) (drop i xs) ≡ lines_from (take (i + 1) xs) (drop (i + 1) xs)
-line_goes xs i h e =
-    let b = get_or xs i 0 in
-    at_drop_more (lines_from (take i xs)) xs i 0 h
-    ∙ cond-false (eqb b 10) _ (lines_from (take i xs ++ b ∷ []) (drop (i + 1) xs)) (ne_eqb b 10 e)
-    ∙ ap (λ l. lines_from l (drop (i + 1) xs)) (sym (take_more xs i 0 h))
-
--- it ends at byte 10, or where the text ends
-pub line_ends : (xs : List ℕ) (i : ℕ) → i < length xs → get_or xs i 0 ≡ 10 → lines_from (take i xs) (drop i xs) ≡ take i xs ∷ lines (drop (i + 1) xs)
-line_ends xs i h e =
-    at_drop_more (lines_from (take i xs)) xs i 0 h ∙ cond-true (eqb (get_or xs i 0) 10) (take i xs ∷ lines (drop (i + 1) xs)) _ (eq-eqb (get_or xs i 0) 10 e)
-
-pub line_last : (xs : List ℕ) (i : ℕ) → length xs ≤ i → 0 < length xs → lines_from (take i xs) (drop i xs) ≡ xs ∷ lines (drop i xs)
-line_last xs i h some =
-    ap (λ l. lines_from l (drop i xs)) (take_all i xs h) ∙ ap (lines_from xs) (drop_all i xs h) ∙ ended_some xs [] some ∙ ap (λ l. xs ∷ lines l) (sym (drop_all i xs h))
-
 -- a line that says something has words
 says_some : (n : ℕ) (ws : List (List ℕ)) (e : Entry) → Says n ws e → ws ≡ [] → ⊥
-says_some n ws e s none = let spelled = s.spelled in let z : ◌≡◌ {A = ℕ} 0 1 = cc in omega arith
+says_some n ws e s none = let spelled = s.spelled in cc
 
 heading_some : (ws : List (List ℕ)) (b p : ℕ) (k : Kind) → SaysHeading ws b p k → ws ≡ [] → ⊥
-heading_some ws b p k s none = let spelled = s.spelled in let z : ◌≡◌ {A = ℕ} 0 1 = cc in omega arith
+heading_some ws b p k s none = let spelled = s.spelled in cc
 
 -- entries of lines, and of more lines behind them
 pub enter_append : (n : ℕ) (ls ms : List (List ℕ)) (es fs : List Entry) → Enter n ls es → Enter n ms fs → Enter n (ls ++ ms) (es ++ fs)
@@ -69,9 +52,6 @@ entries_bytes_append (e ∷ es) fs = ap (λ l. entry_bytes e ++ l) (entries_byte
 
 length_entries_append : (es fs : List Entry) → length (entries_bytes (es ++ fs)) ≡ length (entries_bytes es) + length (entries_bytes fs)
 length_entries_append es fs = ap length (entries_bytes_append es fs) ∙ length-append (entries_bytes es) (entries_bytes fs)
-
-pub entered_none : (n : ℕ) (before : List ℕ) (at : ℕ) → at ≤ length before → Entered n [] before at at before
-entered_none n before at h = record { entries = []; entered = refl; size = omega arith; fits = h; held = refl }
 
 -- lines were written, and more lines behind them
 pub entered_then : (n : ℕ) (ls ms : List (List ℕ)) (before mid after : List ℕ) (at next end : ℕ)
@@ -153,10 +133,30 @@ line_full n line before at e s full es h room =
     let same = enter_one n (line ∷ []) es (e ∷ []) h (inr (e, [], refl, s, refl)) in
     omega (arith, room, full, ap (λ l. length (entries_bytes l)) same, ap length (append-nil (entry_bytes e)))
 
+-- what one line gives that says an entry
+pub line_written : {E : Type 0} (n : ℕ) (line before after : List ℕ) (at : ℕ) (e : Entry) (o : Option ℕ) (r : Result ℕ E) → Says n (said line) e
+    → Wrote before at (entry_bytes e) o after → o ≡ result_ok r → WritesLine n line before at r after
+line_written n line before after at e o (Ok end) s w is = line_entered n line before after at end e s (subst (λ x. Wrote before at (entry_bytes e) x after) is w)
+line_written n line before after at e o (Err _) s w is =
+    let full = subst (λ x. Wrote before at (entry_bytes e) x after) is w in
+    (line_full n line before at e s full.0, full.1)
+
 -- it says no entry
 pub line_bad : (n : ℕ) (line before : List ℕ) (at : ℕ) → (said line ≡ [] → ⊥) → ((e : Entry) → Says n (said line) e → ⊥) → NoRoom n (line ∷ []) before at
 line_bad n line before at some none es (inl h) room = some h.0
 line_bad n line before at some none es (inr h) room = none h.0 h.3
+
+-- a refusal was given the number of its line
+abbrev pub Numbered : {T E : Type 0} → Result T E → ℕ → Result T BadLine → Type 0
+Numbered r line s = MatchResult r (λ x. s ≡ Ok x) (λ e. IsErrAnd s (λ bad. bad.line ≡ line))
+
+pub numbered_ok : {T E : Type 0} (r : Result T E) (line : ℕ) (s : Result T BadLine) (x : T) → Numbered r line s → s ≡ Ok x → r ≡ Ok x
+numbered_ok (Ok y) line s x h e = cc
+numbered_ok (Err y) line s x h e = absurd (subst (λ t. IsErrAnd t (λ bad. bad.line ≡ line)) e h)
+
+pub numbered_err : {T E : Type 0} (r : Result T E) (line : ℕ) (s : Result T BadLine) (bad : BadLine) → Numbered r line s → s ≡ Err bad → (bad.line ≡ line) × ((e : E) × (r ≡ Err e))
+numbered_err (Ok y) line s bad h e = absurd (cc)
+numbered_err (Err y) line s bad h e = (subst (λ t. IsErrAnd t (λ b. b.line ≡ line)) e h, (y, refl))
 
 -- lines were passed over up to rest
 pub record Passing (text rest : List ℕ) (line : ℕ) : Type 0 where
@@ -197,20 +197,15 @@ pub record Filling (n : ℕ) (text rest : List ℕ) (first line : ℕ) (before :
   pub done : List (List ℕ)
   pub split : lines text ≡ done ++ lines rest
   pub number : line ≡ first + length done
-  pub short : line + length rest ≤ first + length text
   pub written : Entered n done before start at tape
 
-pub filling_none : (n : ℕ) (text : List ℕ) (first : ℕ) (before : List ℕ) (start : ℕ) → start ≤ length before → Filling n text text first first before start start before
-filling_none n text first before start h = record { done = []; split = refl; number = omega arith; short = omega arith; written = entered_none n before start h }
-
 pub filling_more : (n : ℕ) (text rest next more : List ℕ) (first line : ℕ) (before tape after : List ℕ) (start at end : ℕ)
-    → lines rest ≡ next ∷ lines more → length more < length rest → Entered n (next ∷ []) tape at end after
+    → lines rest ≡ next ∷ lines more → Entered n (next ∷ []) tape at end after
     → Filling n text rest first line before start at tape → Filling n text more first (line + 1) before start end after
-filling_more n text rest next more first line before tape after start at end e less w f = record {
+filling_more n text rest next more first line before tape after start at end e w f = record {
   done = f.done ++ next ∷ [];
   split = f.split ∙ ap (λ l. f.done ++ l) e ∙ sym (append_assoc f.done (next ∷ []) (lines more));
   number = omega (arith, f.number, length_push f.done next);
-  short = omega (arith, f.short);
   written = entered_then n f.done (next ∷ []) before tape after start at end f.written w;
 }
 
@@ -231,9 +226,3 @@ filling_breaks n text rest next more first line before tape after start at e non
         (at, subst (λ t. Entered n (take k (lines text)) before start at t) (sym same) (subst (λ ls. Entered n ls before start at tape) (sym front) f.written)),
       ),
     )
-
--- no line is left
-pub filling_ends : (n : ℕ) (text rest : List ℕ) (first line : ℕ) (before : List ℕ) (start at : ℕ) (tape : List ℕ) → lines rest ≡ []
-    → Filling n text rest first line before start at tape → Entered n (lines text) before start at tape
-filling_ends n text rest first line before start at tape none f =
-    subst (λ ls. Entered n ls before start at tape) (sym (f.split ∙ ap (λ l. f.done ++ l) none ∙ append-nil f.done)) f.written

@@ -1,8 +1,8 @@
 -- What words say: one thing at most, and what a line that was written says.
-use Rattle.std.proofs.Common.{◌≡◌, ℕ, ◌^◌, ◌<◌, ◌≤◌, false, cond, eqb, List, [], ◌∷◌, ◌++◌, map, Some, None, Ok, Err, codes, decimal, Option, Result, sym, refl, ap, ◌∙◌, subst, append_assoc, append-nil, arith}
+use Rattle.std.proofs.Common.{◌≡◌, ℕ, ◌^◌, ◌<◌, ◌≤◌, false, cond, eqb, List, [], ◌∷◌, ◌++◌, map, Some, None, Ok, Err, codes, decimal, Option, Result, MatchResult, sym, refl, ap, ◌∙◌, subst, append_assoc, append-nil, arith}
 use Rattle.listing.proofs.Spelling.{ended_some}
 use Rattle.listing.specs.Lines.{before_comment, blank, ended, Numeral, said, Says, SaysHeading, value, value_from, words, words_from}
-use Rattle.listing.specs.Scanning.{HeadingBack, ReadsEntry, ReadsHeading}
+use Rattle.listing.specs.Scanning.{HeadingBack, ReadsEntry, ReadsHeader, ReadsHeading, ReadsRecord}
 use Rattle.listing.specs.Text.{cells, entry_text, heading_text, kind_name, row_text}
 use Rattle.std.proofs.lemmas.Fmt.{decimal_nonempty, digits_decimal, digits_value-decimal}
 use Rattle.std.proofs.ByRecursion.{All-weaker}
@@ -50,8 +50,8 @@ says_one n ws d e p q =
 
 kind_one : (k l : Kind) → kind_name k ≡ kind_name l → k ≡ l
 kind_one Plain Plain e = refl
-kind_one Plain Strict e = let z : ◌≡◌ {A = ℕ} 112 115 = cc in absurd (omega arith)
-kind_one Strict Plain e = let z : ◌≡◌ {A = ℕ} 115 112 = cc in absurd (omega arith)
+kind_one Plain Strict e = absurd (cc)
+kind_one Strict Plain e = absurd (cc)
 kind_one Strict Strict e = refl
 
 -- words say one heading at most
@@ -187,6 +187,12 @@ heading_said b p k small fit =
       fit = fit;
     }
 
+-- words that say a heading, or none, read as a line's
+pub heading_read : {E : Type 0} (ws : List (List ℕ)) (r : Result Header E) (s : Result (Option Header) E) → (ws ≡ [] → ⊥) → ReadsHeader ws r
+    → MatchResult r (λ x. s ≡ Ok (Some x)) (λ e. s ≡ Err e) → ReadsHeading ws s
+heading_read ws (Ok found) s some read same = subst (ReadsHeading ws) (sym same) read
+heading_read ws (Err _) s some read same = subst (ReadsHeading ws) (sym same) (some, read)
+
 -- what was read of a heading that was written
 pub heading_gives_back : {E : Type 0} (line : List ℕ) (r : Result (Option Header) E) → ReadsHeading (said line) r
     → (b p : ℕ) (k : Kind) → b < 2 ^ 16 → Fit p → line ≡ heading_text b p k → HeadingBack b p k r
@@ -195,8 +201,14 @@ heading_gives_back line (Ok (Some found)) h b p k small fit e =
 heading_gives_back line (Ok None) h b p k small fit e =
     let spelled = (heading_said b p k small fit).spelled in
     let same = ap said e in
-    let z : ◌≡◌ {A = ℕ} 0 1 = cc in omega arith
+    cc
 heading_gives_back line (Err _) h b p k small fit e = h.1 b p k (subst (λ l. SaysHeading (said l) b p k) (sym e) (heading_said b p k small fit))
+
+-- words that say an entry, or none, read as a line's
+pub entry_read : {E : Type 0} (n : ℕ) (ws : List (List ℕ)) (r : Result Record E) (s : Result (Option Record) E) → (ws ≡ [] → ⊥) → ReadsRecord n ws r
+    → MatchResult r (λ x. s ≡ Ok (Some x)) (λ e. s ≡ Err e) → ReadsEntry n ws s
+entry_read n ws (Ok found) s some read same = subst (ReadsEntry n ws) (sym same) read
+entry_read n ws (Err _) s some read same = subst (ReadsEntry n ws) (sym same) (some, read)
 
 -- what was read of an entry that was written
 pub entry_gives_back : {E : Type 0} (n : ℕ) (line : List ℕ) (r : Result (Option Record) E) → ReadsEntry n (said line) r
@@ -206,5 +218,5 @@ entry_gives_back n line (Ok (Some found)) h e fit fits is =
 entry_gives_back n line (Ok None) h e fit fits is =
     let spelled = (entry_said n e fit fits).spelled in
     let same = ap said is in
-    let z : ◌≡◌ {A = ℕ} 0 1 = cc in absurd (omega arith)
+    absurd (cc)
 entry_gives_back n line (Err _) h e fit fits is = absurd (h.1 e (subst (λ l. Says n (said l) e) (sym is) (entry_said n e fit fits)))

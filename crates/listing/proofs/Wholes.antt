@@ -9,6 +9,7 @@ use Rattle.listing.specs.declared.error.BadLine.{BadLine}
 use Rattle.std.proofs.ByRecursion.{All-append, All-weaker}
 use Rattle.std.proofs.lemmas.List.{length-append, length-set, length-take-le, set-append_left, take-append-drop, take_at}
 use Rattle.std.proofs.lemmas.Bool.{and_parts, cond-false, eqb-false, ne_eqb, not-true}
+use Rattle.std.proofs.Math.Seq.{take-append-add}
 use Rattle.std.specs.List.{AllByRecursion}
 use Rattle.tape.proofs.Laid.{laid_append, length_laid}
 use Rattle.tape.specs.Format.{Entry, opening, offer, confirmation, withdrawal, closing, reading, Fits, header_bytes, letter}
@@ -73,12 +74,6 @@ made text before mid after rest found n start end h w e =
       held = tape_held before mid after header (entries_bytes e.entries) start w.1 w.2 e.held;
     }
 
-take_behind : {X : Type 0} (xs ys : List X) (m : ℕ) → take (length xs + m) (xs ++ ys) ≡ xs ++ take m ys
-take_behind [] ys m = ap (λ k. take k ys) (omega arith)
-take_behind (x ∷ xs) ys m =
-    let more : suc (length xs) + m ≡ suc (length xs + m) = omega arith in
-    ap (λ k. take k (x ∷ (xs ++ ys))) more ∙ ap (λ l. x ∷ l) (take_behind xs ys m)
-
 refused_behind : (text before mid after rest : List ℕ) (found : Header) (n start : ℕ) (bad : BadLine) → HeadedText text found n rest
     → Wrote before 0 (header_bytes found.book found.products found.kind) (Some start) mid → WritesLines found.products n rest mid start (Err bad) after
     → Refused (length before) text before bad.line after
@@ -89,7 +84,7 @@ refused_behind text before mid after rest found n start bad h w r =
     let same = length_laid before 0 header in
     record {
       none = λ b p kind es d fits. elim (describe_front h.front (h.heading ∷ lines rest) b p kind es h.wordless (subst (λ ls. Describe ls b p kind es) h.split d)) [
-        | inl passed ↦ let spelled = h.says.spelled in let none = passed.0 in let z : ◌≡◌ {A = ℕ} 0 1 = cc in omega arith
+        | inl passed ↦ let spelled = h.says.spelled in let none = passed.0 in cc
         | inr said ↦
             let one = heading_one _ b p kind found.book found.products found.kind said.0 h.says in
             r.0 es (subst (λ q. Enter q (lines rest) es) one.1 said.1) (omega (arith, fits, w.1, ap length w.2, same))
@@ -103,7 +98,7 @@ refused_behind text before mid after rest found n start bad h w r =
         found.products,
         found.kind,
         e.entries,
-        subst (λ ls. Describe ls found.book found.products found.kind e.entries) (sym (ap (take (length h.front + suc k)) h.split ∙ take_behind h.front (h.heading ∷ lines rest) (suc k)))
+        subst (λ ls. Describe ls found.book found.products found.kind e.entries) (sym (ap (take (length h.front + suc k)) h.split ∙ take-append-add h.front (h.heading ∷ lines rest) (suc k)))
             (described text rest found n (take k (lines rest)) e.entries h e.entered),
         refl,
       );

@@ -4,6 +4,7 @@ use Rattle.std.specs.Prelude.{◌≡◌, ℕ, ◌+◌, ◌^◌, ◌<◌, ◌≤�
 use Rattle.listing.specs.Lines.{Describe, Enter, lines, said, SaysHeading}
 use Rattle.listing.specs.Text.{listing_of}
 use Rattle.listing.specs.declared.error.BadLine.{BadLine}
+use Rattle.listing.specs.declared.lines.Lines.{Lines}
 use Rattle.std.specs.List.{AllByRecursion}
 use Rattle.tape.specs.Format.{Entry, entry_bytes, Fits, header_bytes}
 use Rattle.tape.specs.Reading.{Fit}
@@ -19,10 +20,12 @@ entries_bytes (e ∷ es) = entry_bytes e ++ entries_bytes es
 abbrev pub tape_bytes : ℕ → ℕ → Kind → List Entry → List ℕ
 tape_bytes book products kind es = header_bytes book products kind ++ entries_bytes es
 
--- the first line and the text behind it, or none where the text is empty
-abbrev pub FirstLine : List ℕ → Option (Bor (List ℕ) × Bor (List ℕ)) → Type 0
-FirstLine text (Some p) = (lines text ≡ p.0.now ∷ lines p.1.now) × (length p.1.now < length text)
-FirstLine text None = lines text ≡ []
+-- the next line was taken, by its number, or none was left
+abbrev pub TakesLine : Lines → Option (ℕ × Bor (List ℕ)) → Lines → Type 0
+TakesLine before (Some p) after =
+    (lines before.rest.now ≡ p.1.now ∷ lines after.rest.now) × (p.0 ≡ before.passed + 1) × (after.passed ≡ before.passed + 1)
+    × (length after.rest.now < length before.rest.now)
+TakesLine before None after = (lines before.rest.now ≡ []) × (after ≡ before)
 
 -- lines with no words
 abbrev pub Wordless : List (List ℕ) → Type 0
@@ -79,9 +82,9 @@ pub record NoHeading (text : List ℕ) (line : ℕ) : Type 0 where
   pub within : front ≤ length (lines text)
   pub wordless : Wordless (take front (lines text))
 
-abbrev pub FindsHeading : List ℕ → Result (Header × ℕ × Bor (List ℕ)) BadLine → Type 0
-FindsHeading text (Ok p) = HeadedText text p.0 p.1 p.2.now
-FindsHeading text (Err bad) = NoHeading text bad.line
+abbrev pub FindsHeading : List ℕ → Result Header BadLine → Lines → Type 0
+FindsHeading text (Ok found) left = HeadedText text found left.passed left.rest.now
+FindsHeading text (Err bad) left = NoHeading text bad.line
 
 -- lines were written as entries behind what stands before a place
 pub record Entered (n : ℕ) (ls : List (List ℕ)) (before : List ℕ) (at end : ℕ) (after : List ℕ) : Type 0 where

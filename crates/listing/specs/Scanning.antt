@@ -1,8 +1,9 @@
 -- What reading words, lines and numbers answers.
 use Rattle.std.specs.Borrow.{Bor}
-use Rattle.std.specs.Prelude.{◌≡◌, ℕ, ◌≤◌, List, [], ◌∷◌, Some, None, Ok, Err, Option, Result, ◌≢◌}
-use Rattle.listing.specs.Lines.{Numeral, Says, SaysHeading, value, words}
+use Rattle.std.specs.Prelude.{◌≡◌, ℕ, ◌-◌, ◌<◌, List, [], ◌∷◌, ◌++◌, length, map, replicate, Some, None, Ok, Err, Option, Result, ◌≢◌}
+use Rattle.listing.specs.Lines.{lines, Numeral, Says, SaysHeading, value, words}
 use Rattle.listing.specs.Text.{kind_name}
+use Rattle.std.specs.List.{AllByRecursion}
 use Rattle.tape.specs.Format.{Entry, record_of}
 use Rattle.tape.specs.declared.header.Header.{Header}
 use Rattle.tape.specs.declared.header.Kind.{Kind}
@@ -13,15 +14,30 @@ abbrev pub FirstWord : List ℕ → Option (Bor (List ℕ) × Bor (List ℕ)) �
 FirstWord text (Some p) = words text ≡ p.0.now ∷ words p.1.now
 FirstWord text None = words text ≡ []
 
--- a word read as a number of at most so much
-abbrev pub ReadsNumber : {E : Type 0} → ℕ → List ℕ → Result ℕ E → Type 0
-ReadsNumber most word (Ok n) = Numeral word × (value word ≡ n) × (n ≤ most)
-ReadsNumber most word (Err _) = Numeral word → value word ≤ most → ⊥
+-- the first line and the text behind it, or none where the text is empty
+abbrev pub FirstLine : List ℕ → Option (Bor (List ℕ) × Bor (List ℕ)) → Type 0
+FirstLine text (Some p) = (lines text ≡ p.0.now ∷ lines p.1.now) × (length p.1.now < length text)
+FirstLine text None = lines text ≡ []
+
+-- a word read as a number below a limit
+abbrev pub ReadsNumber : {T E : Type 0} → ℕ → (T → ℕ) → List ℕ → Result T E → Type 0
+ReadsNumber limit value_of word (Ok x) = Numeral word × (value word ≡ value_of x) × (value word < limit)
+ReadsNumber limit value_of word (Err _) = Numeral word → value word < limit → ⊥
 
 -- the first word read as such a number, and the text behind it
-abbrev pub TakesNumber : {E : Type 0} → ℕ → List ℕ → Result (ℕ × Bor (List ℕ)) E → Type 0
-TakesNumber most text (Ok p) = (word : List ℕ) × (words text ≡ word ∷ words p.1.now) × ReadsNumber {E = ℕ} most word (Ok p.0)
-TakesNumber most text (Err _) = (word : List ℕ) (ws : List (List ℕ)) → words text ≡ word ∷ ws → Numeral word → value word ≤ most → ⊥
+abbrev pub TakesNumber : {T E : Type 0} → ℕ → (T → ℕ) → List ℕ → Result (T × Bor (List ℕ)) E → Type 0
+TakesNumber {T} limit value_of text (Ok p) = (word : List ℕ) × (words text ≡ word ∷ words p.1.now) × ReadsNumber {T = T} {E = ℕ} limit value_of word (Ok p.0)
+TakesNumber limit value_of text (Err _) = (word : List ℕ) (ws : List (List ℕ)) → words text ≡ word ∷ ws → Numeral word → value word < limit → ⊥
+
+-- n words that write numbers below a limit
+abbrev pub Row : ℕ → ℕ → List (List ℕ) → Type 0
+Row limit n ws = (length ws ≡ n) × AllByRecursion (λ w. Numeral w × (value w < limit)) ws
+
+-- words read as such a row: zeros fill the cells past its numbers
+abbrev pub ReadsRow : {T E : Type 0} → T → ℕ → (T → ℕ) → ℕ → List (List ℕ) → Result (List T) E → Type 0
+ReadsRow {T} zero limit value_of n ws (Ok cells) =
+    Row limit n ws × ((row : List T) × (map value_of row ≡ map value ws) × (cells ≡ row ++ replicate (16 - length row) zero))
+ReadsRow zero limit value_of n ws (Err _) = Row limit n ws → ⊥
 
 -- the text behind a first word that has to stand there
 abbrev pub TakesWord : {E : Type 0} → List ℕ → List ℕ → Result (Bor (List ℕ)) E → Type 0

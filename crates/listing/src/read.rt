@@ -1,6 +1,6 @@
-ghost use Rattle.std.specs.Prelude.{◌≡◌, ℕ, ◌^◌, ◌<◌, [], ◌∷◌, Some, Ok, MatchResult, ◌≢◌};
+ghost use Rattle.std.specs.Prelude.{◌≡◌, ℕ, ◌^◌, ◌<◌, ◌≤◌, [], ◌∷◌, Some, Ok, MatchResult, ◌≢◌};
 ghost use Rattle.listing.specs.Lines.{said, words};
-ghost use Rattle.listing.specs.Scanning.{HeadingBack, ReadsEntry, ReadsHeader, ReadsHeading, ReadsRecord, TakesEnd, TakesKind, TakesNumber, TakesWord};
+ghost use Rattle.listing.specs.Scanning.{HeadingBack, ReadsEntry, ReadsHeader, ReadsHeading, ReadsRecord, ReadsRow, TakesEnd, TakesKind, TakesNumber, TakesWord};
 ghost use Rattle.listing.specs.Text.{entry_text, heading_text};
 ghost use Rattle.tape.specs.Format.{Entry, Fits, record_of};
 ghost use Rattle.tape.specs.Reading.{Fit};
@@ -8,35 +8,28 @@ ghost use Rattle.tape.specs.declared.header.Kind.{Kind as SaleKind};
 
 use crate::error::LineError;
 use crate::words::{before_comment, next_word, read_number};
+use tape::field::Field;
 use tape::header::{Header, Kind};
 use tape::record::Record;
 
 // Which `LineError` is told is for the user's eye: the contracts say when a line is refused, and not by which.
 
-// The number of at most `most` that the first word writes, and what follows.
-fn take_number(text: &[u8], most: u32) -> Result<(u32, &[u8]), LineError>
-    ensures { TakesNumber most text.now result }
+// The number that the first word writes, and what follows.
+fn take_number<F: Field>(text: &[u8]) -> Result<(F, &[u8]), LineError>
+    ensures { TakesNumber F.limit F.value_of text.now result }
 {
-    let Some((word, rest)) = next_word(text) else {
-        return Err(LineError::WrongCount);
-    };
-    match read_number(word, most) {
-        Ok(n) => Ok((n, rest)),
-        Err(error) => Err(error),
-    }
+    let (word, rest) = next_word(text).ok_or(LineError::WrongCount)?;
+    let number = read_number(word)?;
+    Ok((number, rest))
 }
 
 // What follows the first word, which has to be `name`.
 fn take_word<'t>(text: &'t [u8], name: &[u8]) -> Result<&'t [u8], LineError>
     ensures { TakesWord name.now text.now result }
 {
-    let Some((word, rest)) = next_word(text) else {
-        return Err(LineError::NotAHeading);
-    };
-    if word == name {
-        Ok(rest)
-    } else {
-        Err(LineError::NotAHeading)
+    match next_word(text) {
+        Some((word, rest)) if word == name => Ok(rest),
+        _ => Err(LineError::NotAHeading),
     }
 }
 
@@ -44,12 +37,10 @@ fn take_word<'t>(text: &'t [u8], name: &[u8]) -> Result<&'t [u8], LineError>
 fn take_kind(text: &[u8]) -> Result<(Kind, &[u8]), LineError>
     ensures { TakesKind text.now result }
 {
-    if let Ok(rest) = take_word(text, b"plain") {
-        return Ok((Kind::Plain, rest));
-    }
-    match take_word(text, b"strict") {
-        Ok(rest) => Ok((Kind::Strict, rest)),
-        Err(error) => Err(error),
+    match next_word(text) {
+        Some((b"plain", rest)) => Ok((Kind::Plain, rest)),
+        Some((b"strict", rest)) => Ok((Kind::Strict, rest)),
+        _ => Err(LineError::NotAHeading),
     }
 }
 
@@ -68,17 +59,18 @@ fn read_header(text: &[u8]) -> Result<Header, LineError>
     ensures { ReadsHeader (words text.now) result }
 {
     let rest = take_word(text, b"book")?;
-    let (book, rest) = take_number(rest, 65_535)?;
+    let (book, rest) = take_number(rest)?;
     let rest = take_word(rest, b"products")?;
-    let (products, rest) = take_number(rest, u32::MAX)?;
+    // In 32 bits, so that 300 is told as no number of products, and not as too large.
+    let (products, rest) = take_number::<u32>(rest)?;
     let rest = take_word(rest, b"kind")?;
     let (kind, rest) = take_kind(rest)?;
     take_end(rest)?;
-    if products < 1 || products > 16 {
+    if !(1..=16).contains(&products) {
         return Err(LineError::BadProducts);
     }
     Ok(Header {
-        book: book as u16,
+        book,
         products: products as u8,
         kind,
     })
@@ -90,45 +82,27 @@ pub fn read_heading(line: &[u8]) -> Result<Option<Header>, LineError>
     ensures gives_back { (book products : ℕ) (kind : SaleKind) → book < 2 ^ 16 → Fit products → line.now ≡ heading_text book products kind → HeadingBack book products kind result }
 {
     let text = before_comment(line);
-    let Some(_) = next_word(text) else {
-        return Ok(None);
-    };
-    match read_header(text) {
-        Ok(header) => Ok(Some(header)),
-        Err(error) => Err(error),
+    match next_word(text) {
+        Some(_) => read_header(text).map(Some),
+        None => Ok(None),
     }
 }
 
-// The opening whose `n` prices are the words of `text`.
-fn read_opening(text: &[u8], n: usize) -> Result<Record, LineError>
-    requires { Fit n }
-    ensures { ReadsRecord n ((79 ∷ []) ∷ words text.now) result }
+// The row whose `n` numbers are the words of `text`; as `tape` reads its bytes: a reader handed in would bring the same
+// contract with it, and be no plainer.
+fn read_row<F: Field>(text: &[u8], n: usize) -> Result<[F; 16], LineError>
+    requires { n ≤ 16 }
+    ensures { ReadsRow F.ZERO F.limit F.value_of n (words text.now) result }
 {
-    let mut prices = [0u32; 16];
+    let mut row = [F::ZERO; 16];
     let mut rest = text;
-    for i in 0..n {
-        let (price, more) = take_number(rest, u32::MAX)?;
-        prices[i] = price;
+    for cell in row[..n].iter_mut() {
+        let (number, more) = take_number(rest)?;
+        *cell = number;
         rest = more;
     }
     take_end(rest)?;
-    Ok(Record::Open(prices))
-}
-
-// The offer whose `n` quantities are the words of `text`.
-fn read_offer(text: &[u8], n: usize) -> Result<Record, LineError>
-    requires { Fit n }
-    ensures { ReadsRecord n ((84 ∷ []) ∷ words text.now) result }
-{
-    let mut quantities = [0u8; 16];
-    let mut rest = text;
-    for i in 0..n {
-        let (quantity, more) = take_number(rest, 255)?;
-        quantities[i] = quantity as u8;
-        rest = more;
-    }
-    take_end(rest)?;
-    Ok(Record::Offer(quantities))
+    Ok(row)
 }
 
 // The record that its letter says alone: nothing follows in `text`.
@@ -144,16 +118,13 @@ fn read_record(word: &[u8], text: &[u8], n: usize) -> Result<Record, LineError>
     requires { Fit n }
     ensures { ReadsRecord n (word.now ∷ words text.now) result }
 {
-    let [letter] = word else {
-        return Err(LineError::UnknownRecord);
-    };
-    match *letter {
-        b'O' => read_opening(text, n),
-        b'T' => read_offer(text, n),
-        b'C' => read_bare(text, Record::Confirm),
-        b'W' => read_bare(text, Record::Withdraw),
-        b'S' => read_bare(text, Record::Close),
-        b'V' => read_bare(text, Record::Sheet),
+    match word {
+        b"O" => read_row(text, n).map(Record::Open),
+        b"T" => read_row(text, n).map(Record::Offer),
+        b"C" => read_bare(text, Record::Confirm),
+        b"W" => read_bare(text, Record::Withdraw),
+        b"S" => read_bare(text, Record::Close),
+        b"V" => read_bare(text, Record::Sheet),
         _ => Err(LineError::UnknownRecord),
     }
 }
@@ -167,12 +138,9 @@ pub fn read_entry(header: &Header, line: &[u8]) -> Result<Option<Record>, LineEr
     let Some((word, text)) = next_word(before_comment(line)) else {
         return Ok(None);
     };
-    let n = header.products as usize;
-    if n < 1 || n > 16 {
+    let n = usize::from(header.products);
+    if !(1..=16).contains(&n) {
         return Err(LineError::BadProducts);
     }
-    match read_record(word, text, n) {
-        Ok(found) => Ok(Some(found)),
-        Err(error) => Err(error),
-    }
+    read_record(word, text, n).map(Some)
 }

@@ -2,7 +2,6 @@
 
 // Turns the text on standard input into a tape on standard output.
 use anyhow::anyhow;
-use listing::error::BadLine;
 use listing::make::make_tape;
 use std::env;
 use std::io::{Read, Write};
@@ -17,14 +16,15 @@ Words are separated by blanks, `#` starts a comment, and lines with no words are
 A bad line is named on standard error, and the status is then 1.
 ";
 
+// As in `tapelist`: a crate for these few lines alone would be no plainer.
 fn asked_for_help(rt: &HostRuntime) -> anyhow::Result<bool> {
-    for arg in env::args(rt)?.skip(1) {
-        if arg.as_str() == "--help" {
-            return Ok(true);
-        }
-        return Err(anyhow!("mktape takes a text on standard input, and no argument but --help"));
+    match env::args(rt)?.nth(1) {
+        Some(arg) if arg.as_str() == "--help" => Ok(true),
+        Some(_) => Err(anyhow!(
+            "mktape takes a text on standard input, and no argument but --help"
+        )),
+        None => Ok(false),
     }
-    Ok(false)
 }
 
 fn run(rt: &HostRuntime) -> anyhow::Result<()> {
@@ -35,14 +35,9 @@ fn run(rt: &HostRuntime) -> anyhow::Result<()> {
     let mut text = Vec::new(rt.alloc());
     rt.stdin().read_to_end(&mut text)?;
     let mut tape = vec![in rt.alloc(); 0u8; MOST_BYTES]?;
-    match make_tape(&text, &mut tape) {
-        Ok(len) => {
-            tape.truncate(len);
-            rt.stdout().write_all(&tape)?;
-            Ok(())
-        }
-        Err(BadLine { line, error }) => Err(anyhow!("line {line}: {error}")),
-    }
+    let len = make_tape(&text, &mut tape)?;
+    rt.stdout().write_all(&tape[..len])?;
+    Ok(())
 }
 
 fn main(rt: HostRuntime) -> anyhow::Result<()> {

@@ -1,18 +1,20 @@
 -- A tape begins with one entry at most.
-use Rattle.std.proofs.Common.{◌≡◌, ℕ, ◌+◌, ◌-◌, ◌*◌, ◌/◌, ◌%◌, ◌^◌, ◌<◌, cond, eqb, List, [], ◌∷◌, ◌++◌, length, take, drop, replicate, Some, None, Ok, Err, Option, Result, sym, refl, ap, ◌∙◌, arith, length-append, Bor}
-use native.Mathlib.Nat.{div-div-eq-div-mul}
+use Rattle.std.proofs.Common.{◌≡◌, ℕ, ◌+◌, ◌*◌, ◌^◌, ◌<◌, cond, eqb, List, [], ◌∷◌, ◌++◌, length, take, drop, Some, None, Ok, Err, Option, Result, sym, refl, ap, ◌∙◌, subst, arith, length-append, Bor}
 use Rattle.std.proofs.lemmas.List.{take_at, drop_at}
+use Rattle.std.proofs.lemmas.Nat.{from_be_bytes-to_be_bytes_4}
 use Rattle.std.specs.List.{AllByRecursion}
-use Rattle.tape.proofs.Rows.{length_price_bytes}
-use Rattle.tape.specs.Format.{Entry, opening, offer, confirmation, withdrawal, closing, reading, Fits, letter, price_bytes, row_bytes, entry_bytes, row_length, entry_of, record_of}
-use Rattle.tape.specs.Reading.{Behind, Fit, Reads, SameBytes, EntryBack}
+use Rattle.tape.proofs.Rows.{length_rows, quantity_bytes}
+use Rattle.tape.specs.Fields.{itself}
+use Rattle.tape.specs.Format.{be8, be32, Entry, opening, offer, confirmation, withdrawal, closing, reading, Fits, letter, price_bytes, row_bytes, entry_bytes, row_length, record_of}
+use Rattle.tape.specs.Reading.{Behind, Fit, Reads, ReadsBehind, RowRead, EntryBack}
 use Rattle.tape.specs.declared.error.TapeError.{TapeError}
 use Rattle.tape.specs.declared.error.TapeError.TheVariants.{TooLong, BadHeader, UnknownLetter, CutOff}
 use Rattle.tape.specs.declared.record.Record.{Record}
+use Rattle.tape.specs.declared.record.Record.TheVariants.{Open, Offer}
 
 -- the row behind an entry's letter is as long as the letter says
 pub row_long : (n : ℕ) (e : Entry) → Fits n e → row_length n (letter e) ≡ Some (length (row_bytes e))
-row_long n (opening prices) f = ap Some (ap (λ k. 4 * k) (sym f.0) ∙ sym (length_price_bytes prices))
+row_long n (opening prices) f = ap Some (ap (λ k. 4 * k) (sym f.0) ∙ sym (length_rows be32 4 (λ x. refl) prices))
 row_long n (offer quantities) f = ap Some (sym f.0)
 row_long n confirmation f = refl
 row_long n withdrawal f = refl
@@ -27,24 +29,10 @@ prices_in (a ∷ (b ∷ [])) = []
 prices_in (a ∷ (b ∷ (c ∷ []))) = []
 prices_in (a ∷ (b ∷ (c ∷ (d ∷ more)))) = (a * 16777216 + b * 65536 + c * 256 + d) ∷ prices_in more
 
--- a number of 32 bits is what its four bytes write
-be32_value : (p : ℕ) → p < 2 ^ 32 → (p / 16777216 % 256) * 16777216 + (p / 65536 % 256) * 65536 + (p / 256 % 256) * 256 + p % 256 ≡ p
-be32_value p h =
-    let a = p / 256 in
-    let b = p / 256 / 256 in
-    let c = p / 256 / 256 / 256 in
-    let q1 : p ≡ p / 256 * 256 + p % 256 = omega arith in
-    let q2 : p / 256 ≡ p / 256 / 256 * 256 + p / 256 % 256 = omega arith in
-    let q3 : p / 256 / 256 ≡ p / 256 / 256 / 256 * 256 + p / 256 / 256 % 256 = omega arith in
-    let q4 : p / 256 / 256 / 256 % 256 ≡ p / 256 / 256 / 256 = omega (arith, h) in
-    let second : p / 65536 ≡ p / 256 / 256 = sym (div-div-eq-div-mul p 256 256) in
-    let third : p / 16777216 ≡ p / 256 / 256 / 256 = sym (div-div-eq-div-mul p 256 65536) ∙ sym (div-div-eq-div-mul (p / 256) 256 256) in
-    rw (second, third) (omega (arith, q1, q2, q3, q4))
-
 prices_back : (prices : List ℕ) → AllByRecursion (λ p. p < 2 ^ 32) prices → prices_in (price_bytes prices) ≡ prices
 prices_back [] h = refl
 prices_back (p ∷ ps) h =
-    let e = be32_value p h.0 in
+    let e = from_be_bytes-to_be_bytes_4 p h.0 in
     let more = prices_back ps h.1 in
     cc
 
@@ -102,41 +90,18 @@ reads_back n t (Err CutOff) h e rest fit f eq =
     let k : h.1.2 ≡ length (row_bytes e) = cc in
     omega (arith, h.1.5, ap length more, length-append (row_bytes e) rest)
 
--- a record says the entry that it is of
-entry_record : (n : ℕ) (e : Entry) → Fits n e → entry_of n (record_of e) ≡ e
-entry_record n (opening prices) f = ap opening (take_at prices (replicate (16 - length prices) 0) n f.0)
-entry_record n (offer quantities) f = ap offer (take_at quantities (replicate (16 - length quantities) 0) n f.0)
-entry_record n confirmation f = refl
-entry_record n withdrawal f = refl
-entry_record n closing f = refl
-entry_record n reading f = refl
+-- a row of prices was read behind an O, and a row of quantities behind a T
+pub prices_behind : (n : ℕ) (t cells rest : List ℕ) → RowRead 0 (2 ^ 32) itself be32 16 n t cells rest → Behind n 79 t (Open cells) rest
+prices_behind n t cells rest r = record { entry = opening r.row; lettered = refl; fits = (r.many, r.small); is = ap Open r.filled; front = r.front }
 
-pub reads_same : (n : ℕ) (t : List ℕ) (r : Result (Option (Record × Bor (List ℕ))) TapeError) → Reads n t r → SameBytes n t r
-reads_same n t (Ok (Some p)) h = h.1.3 ∙ ap (λ e. entry_bytes e ++ p.1.now) (sym (ap (entry_of n) h.1.2 ∙ entry_record n h.1.0 h.1.1))
-reads_same n t (Ok None) h = h.1
-reads_same n t (Err x) h = tt
+pub quantities_behind : (n : ℕ) (t cells rest : List ℕ) → RowRead 0 (2 ^ 8) itself be8 16 n t cells rest → Behind n 84 t (Offer cells) rest
+quantities_behind n t cells rest r = record { entry = offer r.row; lettered = refl; fits = (r.many, r.small); is = ap Offer r.filled; front = r.front ∙ ap (λ l. l ++ rest) (quantity_bytes r.row) }
 
--- a record with no row was found
-pub bare_found : (n : ℕ) (e : Entry) (more : List ℕ) (found : Option (Record × Bor (List ℕ))) (rest : Bor (List ℕ)) (front : Record × Bor (List ℕ))
-    → Fits n e → row_bytes e ≡ [] → more ≡ rest.now → found ≡ Some (record_of e, rest) → found ≡ Some front → Behind n (letter e) more front.0 front.1.now
-bare_found n e more found rest front f bare m was is =
-    let same : front ≡ (record_of e, rest) = cc in
-    record {
-      entry = e;
-      lettered = refl;
-      fits = f;
-      is = ap (λ p. p.0) same;
-      front = m ∙ ap (λ p. p.1.now) (sym same) ∙ ap (λ row. row ++ front.1.now) (sym bare);
-    }
+-- a row is cut off behind its letter
+pub cut_behind : (n b k : ℕ) (t : List ℕ) (r : Result (Record × Bor (List ℕ)) TapeError) → row_length n b ≡ Some k → length t < k → r ≡ Err CutOff → ReadsBehind n b t r
+cut_behind n b k t r long short e = subst (ReadsBehind n b t) (sym e) (k, long, short)
 
 -- a record stands whole behind its letter
 pub whole : (n b : ℕ) (t more : List ℕ) (front : Record × Bor (List ℕ)) → Fit n → t ≡ b ∷ more → Behind n b more front.0 front.1.now → Reads n t (Ok (Some front))
 whole n b t more front fit e h =
     (fit, (h.entry, h.fits, h.is, e ∙ ap (λ x. x ∷ more) (sym h.lettered) ∙ ap (λ l. letter h.entry ∷ l) h.front))
-
-pub found_none : {X : Type 0} (found : Option X) (x : X) → found ≡ Some x → found ≡ None → ⊥
-found_none found x p q = let z : ◌≡◌ {A = ℕ} 0 1 = cc in omega arith
-
-pub none_left : (t : List ℕ) → length t ≡ 0 → t ≡ []
-none_left [] h = refl
-none_left (x ∷ xs) h = absurd (omega arith)

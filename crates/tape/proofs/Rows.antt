@@ -1,68 +1,77 @@
 -- Rows of numbers, cell by cell.
-use Rattle.std.proofs.Common.{◌≡◌, ℕ, suc, ◌+◌, ◌-◌, ◌*◌, ◌/◌, ◌%◌, ◌^◌, ◌<◌, ◌≤◌, min, List, [], ◌∷◌, ◌++◌, length, get_or, take, drop, set, replicate, sym, refl, ap, ◌∙◌, inl, inr, append_assoc, arith, length-append}
+use Rattle.std.proofs.Common.{◌≡◌, ℕ, suc, ◌+◌, ◌-◌, ◌*◌, ◌<◌, ◌≤◌, min, List, [], ◌∷◌, ◌++◌, length, take, drop, set, replicate, sym, refl, ap, ◌∙◌, inl, inr, append_assoc, append-nil, arith, length-append}
+use Rattle.std.proofs.Math.Nat.{mul-le-mul_left, mul-suc, sub-zero}
 use Rattle.std.proofs.ByRecursion.{All-push}
-use Rattle.std.proofs.lemmas.List.{drop_more, set_at, take_all}
+use Rattle.std.proofs.lemmas.List.{drop-replicate, flat_map_more, map-id, set_at, take_all}
+use Rattle.std.proofs.lemmas.List.Concat.{flat_map_single}
 use Rattle.std.proofs.lemmas.Bool.{cases_lt}
-use Rattle.std.specs.List.{AllByRecursion}
-use Rattle.tape.specs.Format.{be32, price_bytes, padded}
+use Rattle.std.specs.List.{flat_map}
+use Rattle.tape.specs.Fields.{itself}
+use Rattle.tape.specs.Format.{be8}
+use Rattle.tape.specs.Reading.{RowRead}
 
--- a row of n numbers of so many bits was read off the front of t into 16 cells
-pub record RowRead (bits n : ℕ) (bytes : List ℕ → List ℕ) (t cells rest : List ℕ) : Type 0 where
-  pub row : List ℕ
-  pub many : length row ≡ n
-  pub small : AllByRecursion (λ x. x < 2 ^ bits) row
-  pub filled : cells ≡ padded row
-  pub front : t ≡ bytes row ++ rest
+-- how long the numbers of a row are, each of which has so many bytes
+pub length_rows : {T : Type 0} (bytes_of : T → List ℕ) (width : ℕ) → ((x : T) → length (bytes_of x) ≡ width) → (row : List T) → length (flat_map bytes_of row) ≡ width * length row
+length_rows bytes_of width each [] = omega arith
+length_rows bytes_of width each (x ∷ row) =
+    let one = length-append (bytes_of x) (flat_map bytes_of row) in
+    let more = length_rows bytes_of width each row in
+    let first = each x in
+    omega (arith, mul-suc width (length row))
 
--- the next cell of a row
-padded_more : (row : List ℕ) (i x : ℕ) → length row ≡ i → i < 16 → set (padded row) i x ≡ padded (row ++ x ∷ [])
-padded_more row i x many room =
-    let left : 16 - length row ≡ suc (15 - i) = omega arith in
-    let then : 15 - i ≡ 16 - length (row ++ x ∷ []) = omega (arith, length-append row (x ∷ [])) in
-    ap (λ k. set (row ++ replicate k 0) i x) left ∙ set_at row 0 (replicate (15 - i) 0) x i many ∙ sym (append_assoc row (x ∷ []) (replicate (15 - i) 0)) ∙ ap (λ k. (row ++ x ∷ []) ++ replicate k 0) then
+-- rows of one kind of number
+module _ {T : Type 0} (zero : T) (limit : ℕ) (value_of : T → ℕ) (bytes_of : T → List ℕ) where
+  pub row_none : (size : ℕ) (t : List ℕ) → RowRead zero limit value_of bytes_of size 0 t (replicate size zero) t
+  row_none size t = record { row = []; many = refl; small = tt; filled = ap (λ k. replicate k zero) (sym (sub-zero size)); front = refl }
 
--- one number more was read: front is its bytes
-pub row_more : (bits i : ℕ) (bytes : List ℕ → List ℕ) (t cells rest : List ℕ) (x : ℕ) (front more : List ℕ)
-    → ((row : List ℕ) → bytes (row ++ x ∷ []) ≡ bytes row ++ front) → rest ≡ front ++ more → x < 2 ^ bits → i < 16
-    → RowRead bits i bytes t cells rest → RowRead bits (i + 1) bytes t (set cells i x) more
-row_more bits i bytes t cells rest x front more snoc split small room r = record {
-  row = r.row ++ x ∷ [];
-  many = length-append r.row (x ∷ []) ∙ ap (λ k. k + 1) r.many;
-  small = All-push (λ y. y < 2 ^ bits) r.row x r.small small;
-  filled = ap (λ l. set l i x) r.filled ∙ padded_more r.row i x r.many room;
-  front = r.front ∙ ap (λ l. bytes r.row ++ l) split ∙ sym (append_assoc (bytes r.row) front more) ∙ ap (λ l. l ++ more) (sym (snoc r.row));
-}
+  -- one number more was read
+  pub row_more : (size i : ℕ) (t : List ℕ) (cells : List T) (rest : List ℕ) (x : T) (more : List ℕ)
+      → value_of x < limit → rest ≡ bytes_of x ++ more → i < size
+      → RowRead zero limit value_of bytes_of size i t cells rest → RowRead zero limit value_of bytes_of size (i + 1) t (set cells i x) more
+  row_more size i t cells rest x more small split room r =
+      let row = r.row in
+      let left : size - length row ≡ suc (size - suc i) = let many = r.many in omega arith in
+      let long : length (row ++ x ∷ []) ≡ i + 1 = length-append row (x ∷ []) ∙ ap (λ k. k + 1) r.many in
+      let then : size - suc i ≡ size - length (row ++ x ∷ []) = omega (arith, long) in
+      record {
+        row = row ++ x ∷ [];
+        many = long;
+        small = All-push (λ y. value_of y < limit) row x r.small small;
+        filled =
+            ap (λ l. set l i x) r.filled
+            ∙ ap (λ k. set (row ++ replicate k zero) i x) left
+            ∙ set_at row zero (replicate (size - suc i) zero) x i r.many
+            ∙ sym (append_assoc row (x ∷ []) (replicate (size - suc i) zero))
+            ∙ ap (λ k. (row ++ x ∷ []) ++ replicate k zero) then;
+        front = r.front ∙ ap (λ l. flat_map bytes_of row ++ l) split ∙ sym (append_assoc (flat_map bytes_of row) (bytes_of x) more) ∙ ap (λ l. l ++ more) (flat_map_more bytes_of [] row x);
+      }
 
-pub row_none : (bits : ℕ) (bytes : List ℕ → List ℕ) (t : List ℕ) → bytes [] ≡ [] → RowRead bits 0 bytes t (replicate 16 0) t
-row_none bits bytes t e = record { row = []; many = refl; small = tt; filled = refl; front = ap (λ l. l ++ t) (sym e) }
+  -- the row is whole: the cells past it were not touched
+  pub row_whole : (size n : ℕ) (t : List ℕ) (cells : List T) (rest : List ℕ) → RowRead zero limit value_of bytes_of n n t cells rest
+      → RowRead zero limit value_of bytes_of size n t (cells ++ drop n (replicate size zero)) rest
+  row_whole size n t cells rest r =
+      let full : n - length r.row ≡ 0 = let many = r.many in omega arith in
+      record {
+        row = r.row;
+        many = r.many;
+        small = r.small;
+        filled = ap (λ l. l ++ drop n (replicate size zero)) (r.filled ∙ ap (λ k. r.row ++ replicate k zero) full ∙ append-nil r.row) ∙ ap (λ l. r.row ++ l) (drop-replicate n size zero ∙ ap (λ k. replicate (size - k) zero) (sym r.many));
+        front = r.front;
+      }
 
-pub price_bytes_more : (x : ℕ) (row : List ℕ) → price_bytes (row ++ x ∷ []) ≡ price_bytes row ++ be32 x
-price_bytes_more x [] = refl
-price_bytes_more x (p ∷ ps) = ap (λ l. be32 p ++ l) (price_bytes_more x ps)
+  -- how long a tape is that begins with a row, each of whose numbers has so many bytes
+  pub row_then : (width : ℕ) → ((x : T) → length (bytes_of x) ≡ width) → (size i : ℕ) (t : List ℕ) (cells : List T) (rest : List ℕ)
+      → RowRead zero limit value_of bytes_of size i t cells rest → length t ≡ width * i + length rest
+  row_then width each size i t cells rest r =
+      ap length r.front ∙ length-append (flat_map bytes_of r.row) rest ∙ ap (λ k. k + length rest) (length_rows bytes_of width each r.row ∙ ap (λ k. width * k) r.many)
 
-pub length_price_bytes : (row : List ℕ) → length (price_bytes row) ≡ 4 * length row
-length_price_bytes [] = refl
-length_price_bytes (p ∷ ps) = let e = length_price_bytes ps in omega arith
+-- a row of quantities is its own bytes
+pub quantity_bytes : (quantities : List ℕ) → flat_map be8 quantities ≡ quantities
+quantity_bytes quantities = flat_map_single itself quantities ∙ map-id quantities
 
--- how long a tape is that begins with a row, each of whose numbers has so many bytes
-pub row_then : (bits i : ℕ) (bytes : List ℕ → List ℕ) (t cells rest : List ℕ) (width : ℕ)
-    → ((row : List ℕ) → length (bytes row) ≡ width * length row) → RowRead bits i bytes t cells rest → length t ≡ width * i + length rest
-row_then bits i bytes t cells rest width each r =
-    ap length r.front ∙ length-append (bytes r.row) rest ∙ ap (λ k. k + length rest) (each r.row ∙ ap (λ k. width * k) r.many)
-
--- four bytes in front are those of the number that they write
-pub be32_front : (t : List ℕ) (x : ℕ) → get_or t 0 0 < 256 → get_or t 1 0 < 256 → get_or t 2 0 < 256 → get_or t 3 0 < 256 → 4 ≤ length t
-    → x ≡ get_or t 0 0 * 16777216 + get_or t 1 0 * 65536 + get_or t 2 0 * 256 + get_or t 3 0 → t ≡ be32 x ++ drop 4 t
-be32_front t x s0 s1 s2 s3 long e =
-    let e0 : t ≡ get_or t 0 0 ∷ drop 1 t = drop_more t 0 0 (omega arith) in
-    let e1 = drop_more t 1 0 (omega arith) in
-    let e2 = drop_more t 2 0 (omega arith) in
-    let e3 = drop_more t 3 0 (omega arith) in
-    let a : x / 16777216 % 256 ≡ get_or t 0 0 = omega arith in
-    let b : x / 65536 % 256 ≡ get_or t 1 0 = omega arith in
-    let c : x / 256 % 256 ≡ get_or t 2 0 = omega arith in
-    let d : x % 256 ≡ get_or t 3 0 = omega arith in
-    cc
+-- one number more of a row is within the row
+pub row_next : (width i n : ℕ) → i < n → width * i + width ≤ width * n
+row_next width i n more = let whole = mul-le-mul_left width more in let next = mul-suc width i in omega (arith, whole, next)
 
 -- the first n of 16 cells, where a count above 16 takes them all
 pub first_cells : (cells : List ℕ) (n k : ℕ) → length cells ≡ 16 → k ≡ min n 16 → take (k - 0) cells ≡ take n cells

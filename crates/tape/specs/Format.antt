@@ -1,14 +1,18 @@
 -- The byte format of a tape: what stands for what.
-use Rattle.std.specs.Prelude.{◌≡◌, ℕ, ◌-◌, ◌*◌, ◌/◌, ◌%◌, ◌^◌, ◌<◌, cond, List, [], ◌∷◌, ◌++◌, length, take, replicate, Some, None, Option, ◌==◌, ◌≢◌}
-use Rattle.std.specs.List.{AllByRecursion}
+use Rattle.std.specs.Prelude.{◌≡◌, ℕ, ◌-◌, ◌*◌, ◌/◌, ◌%◌, ◌^◌, ◌<◌, cond, List, [], ◌∷◌, ◌++◌, length, take, replicate, Some, None, Ok, Err, Option, Result, ◌==◌, ◌≢◌}
+use Rattle.std.specs.List.{AllByRecursion, flat_map}
 use Rattle.tape.specs.declared.error.TapeError.{TapeError}
 use Rattle.tape.specs.declared.error.TapeError.TheVariants.{TooLong, BadHeader, UnknownLetter, CutOff}
 use Rattle.tape.specs.declared.header.Kind.{Kind}
 use Rattle.tape.specs.declared.header.Kind.TheVariants.{Plain, Strict}
+use Rattle.tape.specs.declared.header.UnknownKind.{UnknownKind}
 use Rattle.tape.specs.declared.record.Record.{Record}
 use Rattle.tape.specs.declared.record.Record.TheVariants.{Open, Offer, Confirm, Withdraw, Close, Sheet}
 
--- a number of 16 or 32 bits, its highest byte first
+-- a number of 8, 16 or 32 bits, its highest byte first
+abbrev pub be8 : ℕ → List ℕ
+be8 n = n ∷ []
+
 abbrev pub be16 : ℕ → List ℕ
 be16 n = (n / 256 % 256) ∷ (n % 256) ∷ []
 
@@ -20,10 +24,10 @@ abbrev pub kind_number : Kind → ℕ
 kind_number Plain = 0
 kind_number Strict = 1
 
--- the kind of a number, or none where no kind has it
-abbrev pub Named : ℕ → Option Kind → Type 0
-Named n (Some kind) = kind_number kind ≡ n
-Named n None = (kind : Kind) → kind_number kind ≢ n
+-- the kind of a number, or the number itself where no kind has it
+abbrev pub Named : ℕ → Result Kind UnknownKind → Type 0
+Named n (Ok kind) = kind_number kind ≡ n
+Named n (Err unknown) = (unknown.0 ≡ n) × ((kind : Kind) → kind_number kind ≢ n)
 
 -- a header: the letters RPB, version 1, the book number, the number of products and the kind
 abbrev pub header_bytes : ℕ → ℕ → Kind → List ℕ
@@ -79,8 +83,7 @@ letter closing = 83
 letter reading = 86
 
 abbrev pub price_bytes : List ℕ → List ℕ
-price_bytes [] = []
-price_bytes (p ∷ ps) = be32 p ++ price_bytes ps
+price_bytes prices = flat_map be32 prices
 
 abbrev pub row_bytes : Entry → List ℕ
 row_bytes (opening prices) = price_bytes prices

@@ -1,4 +1,5 @@
 pub mod Format
+pub mod Fields
 pub mod Reading
 pub mod Writing
 pub mod Numbers

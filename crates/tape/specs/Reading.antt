@@ -1,6 +1,7 @@
 -- What reading answers.
 use Rattle.std.specs.Borrow.{Bor}
-use Rattle.std.specs.Prelude.{◌≡◌, ℕ, ◌^◌, ◌<◌, ◌≤◌, List, [], ◌∷◌, ◌++◌, length, Some, None, Ok, Err, Option, Result}
+use Rattle.std.specs.Prelude.{◌≡◌, ℕ, ◌-◌, ◌^◌, ◌<◌, ◌≤◌, List, [], ◌∷◌, ◌++◌, length, replicate, Some, None, Ok, Err, Option, Result}
+use Rattle.std.specs.List.{AllByRecursion, flat_map}
 use Rattle.tape.specs.Format.{header_bytes, Entry, entry_of, record_of, letter, row_bytes, entry_bytes, Fits, row_length}
 use Rattle.tape.specs.declared.error.TapeError.{TapeError}
 use Rattle.tape.specs.declared.error.TapeError.TheVariants.{TooLong, BadHeader, UnknownLetter, CutOff}
@@ -31,6 +32,14 @@ abbrev pub HeaderBack : ℕ → ℕ → Kind → List ℕ → Result (Header × 
 HeaderBack book products kind rest (Ok p) = (p.0.book ≡ book) × (p.0.products ≡ products) × (p.0.kind ≡ kind) × (p.1.now ≡ rest)
 HeaderBack book products kind rest (Err e) = ⊥
 
+-- a row of n numbers was read off the front of t into so many cells; zeros fill the cells past it
+pub record RowRead {T : Type 0} (zero : T) (limit : ℕ) (value_of : T → ℕ) (bytes_of : T → List ℕ) (size n : ℕ) (t : List ℕ) (cells : List T) (rest : List ℕ) : Type 0 where
+  pub row : List T
+  pub many : length row ≡ n
+  pub small : AllByRecursion (λ x. value_of x < limit) row
+  pub filled : cells ≡ row ++ replicate (size - length row) zero
+  pub front : t ≡ flat_map bytes_of row ++ rest
+
 -- a row was read off t, which stands behind a record's letter
 pub record Behind (n b : ℕ) (t : List ℕ) (found : Record) (rest : List ℕ) : Type 0 where
   pub entry : Entry
@@ -38,6 +47,14 @@ pub record Behind (n b : ℕ) (t : List ℕ) (found : Record) (rest : List ℕ) 
   pub fits : Fits n entry
   pub is : found ≡ record_of entry
   pub front : t ≡ row_bytes entry ++ rest
+
+-- what reading behind a record's letter b answers, in a sale of n products: the record and the rest, or why the tape breaks here
+abbrev pub ReadsBehind : ℕ → ℕ → List ℕ → Result (Record × Bor (List ℕ)) TapeError → Type 0
+ReadsBehind n b t (Ok p) = Behind n b t p.0 p.1.now
+ReadsBehind n b t (Err TooLong) = ⊥
+ReadsBehind n b t (Err BadHeader) = ⊥
+ReadsBehind n b t (Err UnknownLetter) = row_length n b ≡ None
+ReadsBehind n b t (Err CutOff) = (k : ℕ) × (row_length n b ≡ Some k) × (length t < k)
 
 -- what reading a record off the front of t answers, in a sale of n products: the record and the rest,
 -- none at the tape's end, or why the tape breaks here

@@ -3,6 +3,7 @@ ghost use Rattle.std.specs.Fmt.{signed_decimal};
 ghost use Rattle.tape.specs.Numbers.{Decimal, Signed};
 ghost use Rattle.tape.specs.Writing.{laid, Wrote};
 
+// The lent memory and a place in it go together here as in `write`, which says why.
 use crate::write::fits;
 
 // How many digits `n` has.
@@ -10,7 +11,7 @@ fn digit_count(n: u64) -> usize
     ensures value { result ≡ length (decimal n) }
     ensures bound { result ≤ 20 }
 {
-    if n < 10 { 1 } else { digit_count(n / 10) + 1 }
+    n.max(1).ilog10() as usize + 1
 }
 
 // Writes one digit into `line` at `at`, and answers the place behind it.
@@ -24,6 +25,7 @@ fn put_digit(digit: u8, line: &mut [u8], at: usize) -> usize
 }
 
 // Writes the digits of `n` into `line` from `at` on, and answers where they end: its tenth part, then its last digit.
+// The project's form for digits: a recursion on the falling number, into lent memory.
 fn put_digits(n: u64, line: &mut [u8], at: usize) -> usize
     requires { at + length (decimal n) ≤ length line.old }
     ensures next { result ≡ at + length (decimal n) }

@@ -1,9 +1,10 @@
-ghost use Rattle.std.specs.Prelude.{◌≡◌, ℕ, ◌+◌, ◌*◌, ◌<◌, ◌≤◌, List, ◌++◌, length, MatchOption};
+ghost use Rattle.std.specs.Prelude.{◌≡◌, ℕ, ◌+◌, ◌*◌, ◌<◌, ◌≤◌, List, ◌++◌, length, IfOk, OnErr};
 ghost use Rattle.tape.specs.Format.{Entry, entry_bytes, Fits};
-ghost use Rattle.tape.specs.Reading.{Behind, EntryBack, Fit, Headed, HeaderBack, Heads, Reads, SameBytes};
+ghost use Rattle.tape.specs.Reading.{EntryBack, Fit, Headed, HeaderBack, Heads, Reads, ReadsBehind, RowRead, SameBytes};
 ghost use Rattle.tape.specs.declared.header.Kind.{Kind};
 
 use crate::error::TapeError;
+use crate::field::Field;
 use crate::header::{Header, Kind};
 use crate::record::Record;
 
@@ -13,13 +14,6 @@ pub const MOST_BYTES: usize = 32_768;
 /// The version of the format.
 pub const VERSION: u16 = 1;
 
-// A number of 16 bits, from its bytes.
-fn number16(high: u8, low: u8) -> u16
-    ensures { result ≡ high * 256 + low }
-{
-    u16::from_be_bytes([high, low])
-}
-
 /// Reads a tape's header; the records are what follows it.
 pub fn read_header(tape: &[u8]) -> Result<(Header, &[u8]), TapeError>
     ensures reads { Heads tape.now result }
@@ -28,6 +22,7 @@ pub fn read_header(tape: &[u8]) -> Result<(Header, &[u8]), TapeError>
     if tape.len() > MOST_BYTES {
         return Err(TapeError::TooLong);
     }
+    // The project's form for a header: one slice pattern that names its bytes, with the records as the rest.
     let [
         b'R',
         b'P',
@@ -43,62 +38,57 @@ pub fn read_header(tape: &[u8]) -> Result<(Header, &[u8]), TapeError>
     else {
         return Err(TapeError::BadHeader);
     };
-    if number16(*version_high, *version_low) != VERSION {
+    if u16::from_be_bytes([*version_high, *version_low]) != VERSION {
         return Err(TapeError::BadHeader);
     }
-    let Some(kind) = Kind::from_number(*kind) else {
-        return Err(TapeError::BadHeader);
-    };
+    let kind = Kind::try_from(*kind).map_err(|_| TapeError::BadHeader)?;
     if *products < 1 || *products > 16 {
         return Err(TapeError::BadHeader);
     }
     let header = Header {
-        book: number16(*book_high, *book_low),
+        book: u16::from_be_bytes([*book_high, *book_low]),
         products: *products,
         kind,
     };
     Ok((header, records))
 }
 
-// A number of 32 bits, from its bytes.
-fn number32(a: u8, b: u8, c: u8, d: u8) -> u32
-    ensures { result ≡ a * 16777216 + b * 65536 + c * 256 + d }
-{
-    u32::from_be_bytes([a, b, c, d])
-}
-
-// The opening whose row of `n` prices stands at the front of `tape`, and the rest; none where the row is cut off.
-fn read_opening(tape: &[u8], n: usize) -> Option<(Record, &[u8])>
+// The row of `n` numbers at the front of `tape`, and the rest. (`listing` reads a row of words likewise.)
+fn read_row<F: Field>(tape: &[u8], n: usize) -> Result<([F; 16], &[u8]), TapeError>
     requires { n ≤ 16 }
-    ensures { MatchOption result (length tape.now < 4 * n) (λ p. Behind n 79 tape.now p.0 p.1.now) }
+    ensures row { IfOk result (λ p. RowRead F.ZERO F.limit F.value_of F.bytes_of 16 n tape.now p.0 p.1.now) }
+    ensures cut_off { OnErr result ((result ≡ Err TapeError.CutOff) × (length tape.now < F.WIDTH * n)) }
 {
-    let mut prices = [0u32; 16];
+    let mut row = [F::ZERO; 16];
     let mut rest = tape;
-    for i in 0..n {
-        let [a, b, c, d, more @ ..] = rest else {
-            return None;
-        };
-        prices[i] = number32(*a, *b, *c, *d);
+    for cell in row[..n].iter_mut() {
+        let (number, more) = F::read(rest).ok_or(TapeError::CutOff)?;
+        *cell = number;
         rest = more;
     }
-    Some((Record::Open(prices), rest))
+    Ok((row, rest))
 }
 
-// The same of an offer and its row of `n` quantities.
-fn read_offer(tape: &[u8], n: usize) -> Option<(Record, &[u8])>
+// The record of that letter, whose row stands at the front of `tape`, and the rest.
+fn read_behind(letter: u8, tape: &[u8], n: usize) -> Result<(Record, &[u8]), TapeError>
     requires { n ≤ 16 }
-    ensures { MatchOption result (length tape.now < n) (λ p. Behind n 84 tape.now p.0 p.1.now) }
+    ensures { ReadsBehind n letter tape.now result }
 {
-    let mut quantities = [0u8; 16];
-    let mut rest = tape;
-    for k in 0..n {
-        let [quantity, more @ ..] = rest else {
-            return None;
-        };
-        quantities[k] = *quantity;
-        rest = more;
+    match letter {
+        b'O' => {
+            let (prices, rest) = read_row(tape, n)?;
+            Ok((Record::Open(prices), rest))
+        }
+        b'T' => {
+            let (quantities, rest) = read_row(tape, n)?;
+            Ok((Record::Offer(quantities), rest))
+        }
+        b'C' => Ok((Record::Confirm, tape)),
+        b'W' => Ok((Record::Withdraw, tape)),
+        b'S' => Ok((Record::Close, tape)),
+        b'V' => Ok((Record::Sheet, tape)),
+        _ => Err(TapeError::UnknownLetter),
     }
-    Some((Record::Offer(quantities), rest))
 }
 
 /// Reads the record at the front of `tape`, which is what is left of the records of a tape with that header:
@@ -119,17 +109,6 @@ pub fn read_record<'t>(
     let [letter, rest @ ..] = tape else {
         return Ok(None);
     };
-    let found = match *letter {
-        b'O' => read_opening(rest, n),
-        b'T' => read_offer(rest, n),
-        b'C' => Some((Record::Confirm, rest)),
-        b'W' => Some((Record::Withdraw, rest)),
-        b'S' => Some((Record::Close, rest)),
-        b'V' => Some((Record::Sheet, rest)),
-        _ => return Err(TapeError::UnknownLetter),
-    };
-    match found {
-        Some(front) => Ok(Some(front)),
-        None => Err(TapeError::CutOff),
-    }
+    let front = read_behind(*letter, rest, n)?;
+    Ok(Some(front))
 }

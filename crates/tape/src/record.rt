@@ -1,6 +1,7 @@
 /// One record of a tape: a call of the sale and the row that it is handed.
 /// A row is the first cells, one for each product; the others are zero.
-#[derive(Clone, Copy)]
+// Rows are arrays, since there is no heap; how many of their cells count is the header's, for all records of a tape.
+#[derive(Clone, Copy, PartialEq, Eq, Debug)]
 pub enum Record {
     /// `O`: a round opens at these prices.
     Open([u32; 16]),

@@ -1,7 +1,12 @@
+//! Writers into lent memory: each takes the memory and a place, and answers the place behind what it wrote. A struct around
+//! the `&mut` would hide what the rest of the memory holds for as long as it lives.
+
 ghost use Rattle.std.specs.Prelude.{◌≡◌, ◌+◌, ◌≤◌, ◌∷◌, length, nat_le};
-ghost use Rattle.tape.specs.Format.{entry_bytes, entry_of, header_bytes, price_bytes};
+ghost use Rattle.std.specs.List.{flat_map};
+ghost use Rattle.tape.specs.Format.{entry_bytes, entry_of, header_bytes};
 ghost use Rattle.tape.specs.Writing.{laid, Wrote};
 
+use crate::field::Field;
 use crate::header::Header;
 use crate::read::VERSION;
 use crate::record::Record;
@@ -13,16 +18,6 @@ pub(crate) fn fits(room: usize, at: usize, need: usize) -> bool
     at <= room && need <= room - at
 }
 
-// Writes `bytes` into `out` from `at` on.
-pub(crate) fn put_bytes(bytes: &[u8], out: &mut [u8], at: usize)
-    requires { at + length bytes.now ≤ length out.old }
-    ensures { out.new ≡ laid out.old at bytes.now }
-{
-    for i in 0..bytes.len() {
-        out[at + i] = bytes[i];
-    }
-}
-
 /// Writes `bytes` into `out` from `at` on, and answers where they end;
 /// none, and nothing written, where `out` is too short.
 pub fn write_bytes(bytes: &[u8], out: &mut [u8], at: usize) -> Option<usize>
@@ -31,8 +26,9 @@ pub fn write_bytes(bytes: &[u8], out: &mut [u8], at: usize) -> Option<usize>
     if !fits(out.len(), at, bytes.len()) {
         return None;
     }
-    put_bytes(bytes, out, at);
-    Some(at + bytes.len())
+    let end = at + bytes.len();
+    out[at..end].copy_from_slice(bytes);
+    Some(end)
 }
 
 /// Writes a header into `out` from `at` on, as [`write_bytes`] does.
@@ -50,37 +46,25 @@ pub fn write_header(header: &Header, out: &mut [u8], at: usize) -> Option<usize>
         book_high,
         book_low,
         header.products,
-        header.kind.number(),
+        u8::from(header.kind),
     ];
     write_bytes(&bytes, out, at)
 }
 
-// Writes an opening at these prices.
-fn write_opening(prices: &[u32], out: &mut [u8], at: usize) -> Option<usize>
-    requires { length prices.now ≤ 16 }
-    ensures { Wrote out.old at (79 ∷ price_bytes prices.now) result out.new }
+// Writes a record's letter and the numbers of its row, as [`write_bytes`] does.
+fn write_row<F: Field>(letter: u8, row: &[F], out: &mut [u8], at: usize) -> Option<usize>
+    requires { length row.now ≤ 16 }
+    ensures { Wrote out.old at (letter ∷ flat_map F.bytes_of row.now) result out.new }
 {
-    if !fits(out.len(), at, 1 + 4 * prices.len()) {
+    if !fits(out.len(), at, 1 + F::WIDTH * row.len()) {
         return None;
     }
-    out[at] = b'O';
-    for i in 0..prices.len() {
-        put_bytes(&prices[i].to_be_bytes(), out, at + 1 + 4 * i);
+    out[at] = letter;
+    let mut next = at + 1;
+    for number in row {
+        next = number.write(out, next)?;
     }
-    Some(at + 1 + 4 * prices.len())
-}
-
-// Writes an offer of these quantities.
-fn write_offer(quantities: &[u8], out: &mut [u8], at: usize) -> Option<usize>
-    requires { length quantities.now ≤ 16 }
-    ensures { Wrote out.old at (84 ∷ quantities.now) result out.new }
-{
-    if !fits(out.len(), at, 1 + quantities.len()) {
-        return None;
-    }
-    out[at] = b'T';
-    put_bytes(quantities, out, at + 1);
-    Some(at + 1 + quantities.len())
+    Some(next)
 }
 
 /// Writes a record of a tape with that header into `out` from `at` on, as [`write_bytes`] does.
@@ -89,8 +73,8 @@ pub fn write_record(header: &Header, record: &Record, out: &mut [u8], at: usize)
 {
     let n = (header.products as usize).min(16);
     match record {
-        Record::Open(prices) => write_opening(&prices[0..n], out, at),
-        Record::Offer(quantities) => write_offer(&quantities[0..n], out, at),
+        Record::Open(prices) => write_row(b'O', &prices[0..n], out, at),
+        Record::Offer(quantities) => write_row(b'T', &quantities[0..n], out, at),
         Record::Confirm => write_bytes(b"C", out, at),
         Record::Withdraw => write_bytes(b"W", out, at),
         Record::Close => write_bytes(b"S", out, at),

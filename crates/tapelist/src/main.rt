@@ -14,14 +14,15 @@ as `O 10 20`, `T 2 0` or `C`. Where the tape breaks, the last line is `NO 13` to
 `mktape` turns the text back into the tape.
 ";
 
+// As in `mktape`: a crate for these few lines alone would be no plainer.
 fn asked_for_help(rt: &HostRuntime) -> anyhow::Result<bool> {
-    for arg in env::args(rt)?.skip(1) {
-        if arg.as_str() == "--help" {
-            return Ok(true);
-        }
-        return Err(anyhow!("tapelist takes a tape on standard input, and no argument but --help"));
+    match env::args(rt)?.nth(1) {
+        Some(arg) if arg.as_str() == "--help" => Ok(true),
+        Some(_) => Err(anyhow!(
+            "tapelist takes a tape on standard input, and no argument but --help"
+        )),
+        None => Ok(false),
     }
-    Ok(false)
 }
 
 fn run(rt: &HostRuntime) -> anyhow::Result<()> {

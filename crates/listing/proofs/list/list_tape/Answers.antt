@@ -1,7 +1,7 @@
-use Rattle.std.proofs.Common.{ℕ, List, [], ◌++◌, Err, vec_items, sym, ap, ◌∙◌, subst, append_assoc, append-nil}
-use Rattle.listing.proofs.Listings.{appended, appended_behind}
-use Rattle.listing.specs.Tapes.{break_text, Listed, too_long, no_header, listed, RecordsListed}
-use Rattle.listing.specs.Text.{entries_text, error_text, heading_text, line}
+use Rattle.std.proofs.Common.{◌≡◌, ℕ, List, [], cond, ◌++◌, is_ok, Err, vec_items, sym, append-nil, rules}
+use Rattle.listing.proofs.Listings.{appended}
+use Rattle.listing.specs.Tapes.{Listed, too_long, no_header}
+use Rattle.listing.specs.Text.{error_text, line}
 use Rattle.tape.specs.Reading.{Heads}
 use Rattle.tape.specs.declared.error.TapeError.{TapeError}
 use Rattle.tape.specs.declared.error.TapeError.TheVariants.{TooLong, BadHeader, UnknownLetter, CutOff}
@@ -17,16 +17,8 @@ refused t CutOff h = absurd h
 pub returns-in-Err : goal.returns-in-Err
 returns-in-Err c =
     let old = vec_items c.args.text.now in
-    let error = c.in-Err.error in
-    appended (Listed c.args.tape.now) old [] (line (error_text error)) old (vec_items c.push_error.new.text) c.push_error.result (sym (append-nil old)) c.push_error.ensures
-    (refused c.args.tape.now error c.in-Err.ensures.reads)
-
-pub returns : goal.returns
-returns c =
-    let t = c.args.tape.now in
-    let front = c.in-Ok.front in
-    let read = c.in-Ok.ensures.reads in
-    let heading = line (heading_text front.0.book front.0.products front.0.kind) in
-    appended_behind (RecordsListed front.0.products front.1.now) (Listed t) (vec_items c.args.text.now) heading
-    (vec_items c.push_heading.new.text) (vec_items c.push_records.new.text) c.push_records.result c.in_ok-push_heading.ensures
-    (λ more l. subst (Listed t) (append_assoc heading (entries_text l.entries) (break_text l.end) ∙ ap (λ s. heading ++ s) (sym l.said)) (listed read.0 read.1 l.held)) c.push_records.ensures
+    let after = vec_items c.extend_from_slice.new.self in
+    let r = c.extend_from_slice.result in
+    let said = line (error_text c.in-Err.error) in
+    let added : after ≡ cond (is_ok r) (old ++ said) old = search rules in
+    appended (Listed c.args.tape.now) old [] said old after r (sym (append-nil old)) added (refused c.args.tape.now c.in-Err.error c.in-Err.ensures.reads)

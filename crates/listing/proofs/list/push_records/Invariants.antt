@@ -3,8 +3,8 @@ use Rattle.listing.proofs.Listings.{Listing}
 use Rattle.listing.proofs.list.push_records.Given as goal
 
 -- the records before the rest are listed
-abbrev pub invariant-loop-front : goal.invariant-loop-front
-invariant-loop-front l = Listing l.header.products l.records l.rest (vec_items l.initial.text) (vec_items l.text)
+abbrev pub invariant-loop-entry : goal.invariant-loop-entry
+invariant-loop-entry l = Listing l.header.products l.records l.rest (vec_items l.initial.text) (vec_items l.text)
 
-abbrev pub decreases-loop-front : goal.decreases-loop-front
-decreases-loop-front l = length l.rest
+abbrev pub decreases-loop-entry : goal.decreases-loop-entry
+decreases-loop-entry l = length l.rest

@@ -1,4 +1,4 @@
-use Rattle.std.proofs.Common.{◌≡◌, ◌-◌, min, ◌++◌, length, drop, sym, refl, subst, arith}
+use Rattle.std.proofs.Common.{◌≡◌, min, ◌++◌, length, drop, sym, refl, subst, arith}
 use Rattle.listing.proofs.Wholes.{described_made, listing_described, makes_in_part}
 use Rattle.listing.specs.Lines.{Describe, lines}
 use Rattle.listing.specs.Making.{Makes}
@@ -8,7 +8,7 @@ pub returns : goal.returns
 returns c =
     let text = c.args.text.now in
     let before = c.args.tape.now in
-    let room = c.min-room.result - 0 in
+    let room = c.min-room.result in
     let after = c.fill_tape.new.tape ++ drop room before in
     let same : room ≡ min (length before) 32768 = omega (arith, c.min-room.ensures) in
     let makes : Makes (min (length before) 32768) text before c.fill_tape.result after =

@@ -1,29 +1,19 @@
-use Rattle.std.proofs.Common.{◌≡◌, ℕ, Some, None, Ok, Err, sym, ap, ◌∙◌, subst, arith}
-use Rattle.listing.proofs.Sayings.{entry_gives_back}
-use Rattle.listing.specs.Lines.{said, Says, words}
-use Rattle.listing.specs.Scanning.{ReadsEntry}
+use Rattle.std.proofs.Common.{◌≡◌, [], ◌∷◌, Some, None, Ok, Err, MatchResult, sym, ap, ◌∙◌, subst, rules}
+use Rattle.listing.proofs.Sayings.{entry_gives_back, entry_read}
+use Rattle.listing.specs.Lines.{said, words}
+use Rattle.listing.specs.Scanning.{ReadsRecord}
 use Rattle.listing.specs.declared.error.LineError.{LineError}
 use Rattle.listing.proofs.read.read_entry.Goals as goal
 
-pub returns-in_default : goal.returns-in_default
-returns-in_default c =
-    let none = ap words (sym c.before_comment.ensures) ∙ c.in_default.ensures in
-    record { reads = none; gives_back = entry_gives_back c.args.header.now.products c.args.line.now (Ok None) none }
+pub returns-in_default-clause-gives_back : goal.returns-in_default-clause-gives_back
+returns-in_default-clause-gives_back c = entry_gives_back {E = LineError} c.args.header.now.products c.args.line.now (Ok None) (search rules)
 
-pub returns-in-Ok : goal.returns-in-Ok
-returns-in-Ok c =
+pub returns : goal.returns
+returns c =
     let n = c.args.header.now.products in
     let line = c.args.line.now in
-    let spelled = ap words (sym c.before_comment.ensures) ∙ c.in-Some.ensures in
-    let found = c.in-Ok.ensures in
-    let read : ReadsEntry {E = LineError} n (said line) (Ok (Some c.in-Ok.found)) = (found.0, subst (λ ws. Says n ws found.0) (sym spelled) found.1, found.2) in
-    record { reads = read; gives_back = entry_gives_back n line (Ok (Some c.in-Ok.found)) read }
-
-pub returns-in-Err : goal.returns-in-Err
-returns-in-Err c =
-    let n = c.args.header.now.products in
-    let line = c.args.line.now in
-    let spelled = ap words (sym c.before_comment.ensures) ∙ c.in-Some.ensures in
-    let read : ReadsEntry {E = LineError} n (said line) (Err c.in-Err.error) =
-    (λ none. let z : ◌≡◌ {A = ℕ} 0 1 = cc in omega arith, λ e s. c.in-Err.ensures e (subst (λ ws. Says n ws e) spelled s)) in
-    record { reads = read; gives_back = entry_gives_back n line (Err c.in-Err.error) read }
+    let spelled : said line ≡ c.in-Some.word.now ∷ words c.in-Some.text.now = ap words (sym c.before_comment.ensures) ∙ c.in-Some.ensures in
+    let some : said line ≡ [] → ⊥ = λ none. cc in
+    let same : MatchResult c.read_record.result (λ x. c.map.result ≡ Ok (Some x)) (λ e. c.map.result ≡ Err e) = search rules in
+    let read = entry_read n (said line) c.read_record.result c.map.result some (subst (λ ws. ReadsRecord n ws c.read_record.result) (sym spelled) (search rules)) same in
+    record { reads = read; gives_back = entry_gives_back n line c.map.result read }

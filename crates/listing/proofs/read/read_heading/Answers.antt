@@ -1,23 +1,14 @@
-use Rattle.std.proofs.Common.{◌≡◌, ℕ, Some, Ok, Err, sym, ap, ◌∙◌, subst, arith}
-use Rattle.listing.proofs.Sayings.{heading_gives_back}
-use Rattle.listing.specs.Lines.{said, SaysHeading, words}
+use Rattle.std.proofs.Common.{◌≡◌, [], Some, Ok, Err, MatchResult, subst, rules}
+use Rattle.listing.proofs.Sayings.{heading_gives_back, heading_read}
+use Rattle.listing.specs.Lines.{words}
 use Rattle.listing.specs.Scanning.{ReadsHeading}
 use Rattle.listing.proofs.read.read_heading.Goals as goal
 
-pub returns-in-Ok : goal.returns-in-Ok
-returns-in-Ok c =
+pub returns-in-Some : goal.returns-in-Some
+returns-in-Some c =
     let line = c.args.line.now in
-    let header = c.in-Ok.header in
-    let read : SaysHeading (said line) header.book header.products header.kind =
-    subst (λ t. SaysHeading (words t) header.book header.products header.kind) c.before_comment-text.ensures c.in-Ok.ensures in
-    record { reads = read; gives_back = heading_gives_back {E = ℕ} line (Ok (Some header)) read }
-
-pub returns-in-Err : goal.returns-in-Err
-returns-in-Err c =
-    let line = c.args.line.now in
-    let some = ap words (sym c.before_comment-text.ensures) ∙ c.in-Some.ensures in
-    let read : ReadsHeading {E = ℕ} (said line) (Err 0) = (
-      λ none. let z : ◌≡◌ {A = ℕ} 0 1 = cc in omega arith,
-      λ b p k h. c.in-Err.ensures b p k (subst (λ t. SaysHeading (words t) b p k) (sym c.before_comment-text.ensures) h),
-    ) in
-    record { reads = read; gives_back = heading_gives_back {E = ℕ} line (Err 0) read }
+    let text = c.before_comment-text.result.now in
+    let some : words text ≡ [] → ⊥ = λ none. let first = c.in-Some.ensures in cc in
+    let same : MatchResult c.read_header.result (λ x. c.map.result ≡ Ok (Some x)) (λ e. c.map.result ≡ Err e) = search rules in
+    let read = subst (λ t. ReadsHeading (words t) c.map.result) c.before_comment-text.ensures (heading_read (words text) c.read_header.result c.map.result some c.read_header.ensures same) in
+    record { reads = read; gives_back = heading_gives_back line c.map.result read }

@@ -1,35 +1,22 @@
-use Rattle.std.proofs.Common.{◌+◌, ◌-◌, ◌*◌, ◌≤◌, length, get_or, drop, sym, ap, ◌∙◌, subst, inl, inr, arith}
+use Rattle.std.proofs.Common.{◌≡◌, ◌+◌, ◌-◌, ◌*◌, None, get_or, drop, ap, sym, ◌∙◌, arith}
+use Rattle.std.specs.Result.{result_ok}
+use Rattle.std.proofs.lemmas.Result.{err_from_is_err_and}
 use Rattle.listing.proofs.Spelling.{value_grows, value_more}
 use Rattle.listing.specs.Lines.{value_from}
-use Rattle.std.proofs.ByRecursion.{All-get_or, All-more}
-use Rattle.std.proofs.lemmas.List.{drop_all, take_all}
-use Rattle.std.proofs.lemmas.Bool.{eqb-false}
-use Rattle.std.specs.List.{AllByRecursion}
 use Rattle.listing.proofs.words.read_number.Goals as goal
 
-pub returns-then-digit-lt48 : goal.returns-then-digit-lt48
-returns-then-digit-lt48 c numeral small =
-    let digit = All-get_or (λ d. (48 ≤ d) × (d ≤ 57)) c.args.word.now c.loop-i.i 0 (omega arith) numeral.1 in
-    elim c.then-digit-lt48.either [ inl below ↦ omega arith | inr above ↦ omega arith ]
+pub loop-digit-init : goal.loop-digit-init
+loop-digit-init g c =
+    let zero : g.F.Field.value_of c.ZERO-number.result ≡ 0 = ap g.F.Field.value_of c.ZERO-number.ensures ∙ g.met.F.Field.laws.nothing in
+    (tt, ap (λ n. value_from n c.args.word.now) (sym zero), omega (arith, zero), λ some. absurd (omega arith))
 
-pub returns-then-n-most : goal.returns-then-n-most
-returns-then-n-most c numeral small =
+pub returns-in_err-number : goal.returns-in_err-number
+returns-in_err-number g c =
     let word = c.args.word.now in
-    let i = c.loop-i.i in
-    let n = c.loop-i.n in
+    let i = c.loop-digit.digit-index in
+    let n = g.F.Field.value_of c.loop-digit.number in
     let grown = value_grows (n * 10 + (get_or word i 0 - 48)) (drop (i + 1) word) in
-    omega (arith, c.loop-i.invariant.1 ∙ value_more word i n (omega arith), grown)
-
-pub loop-i-preserved : goal.loop-i-preserved
-loop-i-preserved c =
-    let word = c.args.word.now in
-    let i = c.loop-i.i in
-    (All-more (λ d. (48 ≤ d) × (d ≤ 57)) word i 0 (omega arith) c.loop-i.invariant.0 (omega arith, omega arith), c.loop-i.invariant.1 ∙ value_more word i c.loop-i.n (omega arith), omega arith)
-
-pub returns : goal.returns
-returns c =
-    let word = c.args.word.now in
-    let i = c.loop-i.i in
-    let none = eqb-false (length word) 0 (sym c.if-is_empty.ensures) in
-    let digits = subst (AllByRecursion (λ d. (48 ≤ d) × (d ≤ 57))) (take_all i word (omega arith)) c.loop-i.invariant.0 in
-    ((omega arith, digits), c.loop-i.invariant.1 ∙ ap (value_from c.loop-i.n) (drop_all i word (omega arith)), c.loop-i.invariant.2)
+    let whole = c.loop-digit.invariant.1 ∙ value_more word i n (omega arith) in
+    let none : c.from_value.result ≡ None = c.ok_or.ensures.ok_part ∙ ap result_ok c.in_err-number.was in
+    let large = rw none at c.from_value.ensures in
+    rw (err_from_is_err_and c.from_residual.result c.from_residual.ensures.1).1 (λ numeral small. omega (arith, grown, whole, large))
