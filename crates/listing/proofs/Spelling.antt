@@ -1,8 +1,8 @@
 -- Words, comments and numbers, byte by byte.
-use Rattle.std.proofs.Common.{◌≡◌, ℕ, suc, ◌+◌, ◌-◌, ◌*◌, ◌<◌, ◌≤◌, Bool, true, false, cond, not, eqb, ltb, ltb-false, ltb-true, Some, None, Option, MatchOption, position, subst, List, [], ◌∷◌, ◌++◌, length, get_or, take, drop, sym, refl, ap, ◌∙◌, append_assoc, append-nil, arith}
+use Rattle.std.proofs.Common.{◌≡◌, ℕ, suc, ◌+◌, ◌-◌, ◌*◌, ◌<◌, ◌≤◌, Bool, true, false, cond, not, eqb, ltb, ltb-false, ltb-true, min, Some, None, Option, MatchOption, position, subst, List, [], ◌∷◌, ◌++◌, length, get_or, take, drop, sym, refl, ap, ◌∙◌, append_assoc, append-nil, arith}
 use Rattle.std.specs.List.{position_or_len}
 use Rattle.listing.specs.Lines.{before_comment, blank, ended, lines, lines_from, value_from, words, words_from}
-use Rattle.std.proofs.lemmas.List.{at_drop_more, drop_all, get_or-drop, length-drop}
+use Rattle.std.proofs.lemmas.List.{at_drop_more, drop_all, get_or-drop, length-drop, take_all}
 use Rattle.std.proofs.lemmas.List.Sums.{passes_at_first, prefix_len-le-length}
 use Rattle.std.specs.Option.{unwrap_or}
 use Rattle.std.proofs.lemmas.Bool.{cond-false, cond-true, not-true}
@@ -133,6 +133,21 @@ line_last line (b ∷ bs) h = by (eqb b 10) refl (line_last (line ++ b ∷ []) b
 pub ended_some : (w : List ℕ) (ws : List (List ℕ)) → 0 < length w → ended w ws ≡ w ∷ ws
 ended_some [] ws h = absurd (omega arith)
 ended_some (b ∷ bs) ws h = refl
+
+-- the first line is what stands before the first byte 10, and what follows it are the lines behind
+pub line_cut : (xs : List ℕ) (end next : ℕ) → 0 < length xs → end ≡ position_or_len (λ b. eqb b 10) xs → next ≡ min (length xs) (end + 1)
+    → lines xs ≡ take end xs ∷ lines (drop next xs)
+line_cut xs end next some e n = by (ltb end (length xs)) refl
+  where
+    by : (t : Bool) → ltb end (length xs) ≡ t → lines xs ≡ take end xs ∷ lines (drop next xs)
+    by true h =
+        let here = ltb-true end (length xs) h in
+        let behind : suc end ≡ next = omega (arith, n, here) in
+        line_ends [] xs (omega (arith, e, here)) ∙ ap (λ k. take k xs ∷ lines (drop (suc k) xs)) (sym e) ∙ ap (λ k. take end xs ∷ lines (drop k xs)) behind
+    by false h =
+        let past = ltb-false end (length xs) h in
+        line_last [] xs (omega (arith, e, past)) ∙ ended_some xs [] some ∙ ap (λ l. l ∷ []) (sym (take_all end xs past))
+        ∙ ap (λ l. take end xs ∷ lines l) (sym (drop_all next xs (omega (arith, n, past))))
 
 -- one digit more
 pub value_more : (xs : List ℕ) (i n : ℕ) → i < length xs → value_from n (drop i xs) ≡ value_from (n * 10 + (get_or xs i 0 - 48)) (drop (i + 1) xs)

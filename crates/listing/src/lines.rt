@@ -47,8 +47,7 @@ fn next_line(text: &[u8]) -> Option<(&[u8], &[u8])>
     if text.is_empty() {
         return None;
     }
-    match text.iter().position(|b| *b == b'\n') {
-        Some(end) => Some((&text[..end], &text[end + 1..])),
-        None => Some((text, &[])),
-    }
+    let end = text.iter().position(|b| *b == b'\n').unwrap_or(text.len());
+    let next = text.len().min(end + 1);
+    Some((&text[..end], &text[next..]))
 }

@@ -8,7 +8,9 @@ use tape::header::Header;
 use tape::read::MOST_BYTES;
 use tape::write::{write_header, write_record};
 
-// The heading, which is the first line with words.
+// The heading, which is the first line with words. The loops over lines stand alone in the machine code: inlined into all
+// that calls them they would keep their values in memory.
+#[inline(never)]
 fn find_heading(lines: &mut Lines) -> Result<Header, BadLine>
     requires { lines.old.passed ≡ 0 }
     ensures { FindsHeading lines.old.rest.now result lines.new }
@@ -37,7 +39,8 @@ fn write_line(header: &Header, line: &[u8], tape: &mut [u8], at: usize) -> Resul
     write_record(header, &entry, tape, at).ok_or(LineError::TapeFull)
 }
 
-// Writes what the lines say.
+// Writes what the lines say. Not inlined, as `find_heading`.
+#[inline(never)]
 fn write_lines(
     header: &Header,
     lines: Lines,

@@ -38,8 +38,8 @@ fn take_kind(text: &[u8]) -> Result<(Kind, &[u8]), LineError>
     ensures { TakesKind text.now result }
 {
     match next_word(text) {
-        Some((b"plain", rest)) => Ok((Kind::Plain, rest)),
-        Some((b"strict", rest)) => Ok((Kind::Strict, rest)),
+        Some((word, rest)) if word == b"plain".as_slice() => Ok((Kind::Plain, rest)),
+        Some((word, rest)) if word == b"strict".as_slice() => Ok((Kind::Strict, rest)),
         _ => Err(LineError::NotAHeading),
     }
 }
@@ -113,14 +113,15 @@ fn read_bare(text: &[u8], found: Record) -> Result<Record, LineError>
     Ok(found)
 }
 
-// The record that `word` and the words of `text` say.
+// The record that `word` and the words of `text` say. Not inlined, so that a line with no words makes no room for a record.
+#[inline(never)]
 fn read_record(word: &[u8], text: &[u8], n: usize) -> Result<Record, LineError>
     requires { Fit n }
     ensures { ReadsRecord n (word.now ∷ words text.now) result }
 {
     match word {
-        b"O" => read_row(text, n).map(Record::Open),
-        b"T" => read_row(text, n).map(Record::Offer),
+        b"O" => Ok(Record::Open(read_row(text, n)?)),
+        b"T" => Ok(Record::Offer(read_row(text, n)?)),
         b"C" => read_bare(text, Record::Confirm),
         b"W" => read_bare(text, Record::Withdraw),
         b"S" => read_bare(text, Record::Close),
@@ -142,5 +143,5 @@ pub fn read_entry(header: &Header, line: &[u8]) -> Result<Option<Record>, LineEr
     if !(1..=16).contains(&n) {
         return Err(LineError::BadProducts);
     }
-    read_record(word, text, n).map(Some)
+    Ok(Some(read_record(word, text, n)?))
 }

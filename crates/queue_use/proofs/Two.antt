@@ -1,17 +1,18 @@
 -- Two packages in, and both out.
-use Rattle.std.proofs.Common.{◌≡◌, ℕ, true, false, cond, ◌⊎◌, List, is_some, Some, None, Ok, Result, sym, ap, ◌∙◌, inl, inr, ⊎_elim, arith}
+use Rattle.std.proofs.Common.{◌≡◌, ℕ, ◌≤◌, true, false, cond, ◌⊎◌, List, length, is_some, Some, None, Ok, Result, sym, ap, ◌∙◌, inl, inr, ⊎_elim, arith}
 use Rattle.std.proofs.lemmas.Bool.{both_ways, cases_eq}
 use Rattle.worth.specs.Group.{Group, Laws}
 use Rattle.worth.specs.Says.{less_of}
 use Rattle.worth.proofs.Orders.{lt_or_eq}
-use Rattle.queue.specs.Contents.{count, key_of}
+use Rattle.queue.specs.Contents.{room, count, key_of}
 use Rattle.queue.specs.Calls.{Made, PutIn, First, TakenOut}
 use Rattle.queue.specs.Order.{Sound}
 use Rattle.queue.specs.declared.Entry.{Entry}
 use Rattle.queue.specs.declared.Full.{Full}
 use Rattle.queue.specs.declared.Put.{Put}
+use Rattle.queue.specs.declared.Put.TheVariants.{Added}
 use Rattle.queue.specs.declared.Queue.{Queue}
-use Rattle.queue.proofs.Uses.{put_new}
+use Rattle.queue.proofs.Uses.{put_new, put_taken}
 use Rattle.queue_use.specs.Order.{order_of}
 
 module _ (G : Group) (L : Laws G) {W : Type 0} (m : W → G.Carrier) (one two : W) where
@@ -23,12 +24,10 @@ module _ (G : Group) (L : Laws G) {W : Type 0} (m : W → G.Carrier) (one two : 
     pub others : (p : ℕ) → (p ≡ 1 → ⊥) → (p ≡ 2 → ⊥) → key_of q p ≡ None
     pub sound : Sound G m q
 
-  pub both : (mem : List (Entry W)) (made between after : Queue W) (r s : Result Put Full) (x y : Put) → r ≡ Ok x → s ≡ Ok y → Made G m mem made → PutIn G m made 1 one r between → PutIn G m between 2 two s after → Both after
-  both mem made between after r s x y in_one in_two new p q =
-      let fst = put_new G m made 1 one r between p (new.none 1) x in_one in
+  -- what two answers leave: 1 is added to a new queue, and then 2
+  both_in : (mem : List (Entry W)) (made between after : Queue W) → Made G m mem made → PutIn G m made 1 one (Ok Added) between → PutIn G m between 2 two (Ok Added) after → Both after
+  both_in mem made between after new fst snd =
       let one' = fst.stored new.sound in
-      let out : key_of between 2 ≡ None = one'.others 2 (omega arith) ∙ new.none 2 in
-      let snd = put_new G m between 2 two s after q out y in_two in
       let two' = snd.stored one'.sound in
       record {
         first = two'.others 1 (omega arith) ∙ one'.key;
@@ -37,6 +36,25 @@ module _ (G : Group) (L : Laws G) {W : Type 0} (m : W → G.Carrier) (one two : 
         sound = two'.sound;
         count = omega (arith, new.count, fst.count, snd.count);
       }
+
+  -- 2 does not wait once 1 is added
+  out_of : (mem : List (Entry W)) (made between : Queue W) → Made G m mem made → PutIn G m made 1 one (Ok Added) between → key_of between 2 ≡ None
+  out_of mem made between new fst = (fst.stored new.sound).others 2 (omega arith) ∙ new.none 2
+
+  -- where there is room for two
+  pub both : (mem : List (Entry W)) (made between after : Queue W) (r s : Result Put Full) → 2 ≤ length mem → Made G m mem made → PutIn G m made 1 one r between → PutIn G m between 2 two s after → Both after
+  both mem made between after r s long new p q =
+      let fits : room made ≡ length mem = ap length new.same in
+      let fst = put_new G m made 1 one r between p (new.none 1) (omega (arith, new.count)) in
+      let snd = put_new G m between 2 two s after q (out_of mem made between new fst) (omega (arith, new.count, fst.count, fst.room)) in
+      both_in mem made between after new fst snd
+
+  -- where neither is refused
+  pub both_taken : (mem : List (Entry W)) (made between after : Queue W) (r s : Result Put Full) (x y : Put) → r ≡ Ok x → s ≡ Ok y → Made G m mem made → PutIn G m made 1 one r between → PutIn G m between 2 two s after → Both after
+  both_taken mem made between after r s x y in_one in_two new p q =
+      let fst = put_taken G m made 1 one r between p (new.none 1) x in_one in
+      let snd = put_taken G m between 2 two s after q (out_of mem made between new fst) y in_two in
+      both_in mem made between after new fst snd
 
   module _ (q mid last : Queue W) (e f : Entry W) (b : Both q) (t : TakenOut G m q e mid) (u : TakenOut G m mid f last) where
     first : First G m q e mid

@@ -38,7 +38,7 @@ module _ (T : Table) where
       rw (eq-eqb (length row) T.products long, lt-ltb 0 (length (rounds T)) (omega (arith, table_rounds T)), latest_bid latest is) refl
 
   -- a package has one place
-  one_place : (a b : ℕ) → a < T.packages → b < T.packages → row_at T.products T.rows a ≡ row_at T.products T.rows b → a ≡ b
+  pub one_place : (a b : ℕ) → a < T.packages → b < T.packages → row_at T.products T.rows a ≡ row_at T.products T.rows b → a ≡ b
   one_place a b ha hb e =
       roll_distinct (rounds T) a b (omega (arith, table_roll T)) (omega (arith, table_roll T)) (table_package T a ha ∙ e ∙ sym (table_package T b hb))
 
@@ -58,14 +58,14 @@ module _ (T : Table) where
     pub placed : Placed (roll (rounds_of T.products rows' played' T.rounds)) row (Some place)
 
   module _ (row : List ℕ) (latest : ℕ) (takes : takes_bid T.products (rounds T) row ≡ true) (is_latest : latest + 1 ≡ T.rounds) (room : latest < length T.played) where
-    row_long : length row ≡ T.products
+    pub row_long : length row ≡ T.products
     row_long = eqb-true (length row) T.products (and_parts (eqb (length row) T.products) _ takes).0
 
     free : bid_of T.played latest ≡ None
     free = none_of (bid_of T.played latest) (sym (latest_bid latest is_latest) ∙ not-true (has_bid (rounds T)) (and_parts (ltb 0 (length (rounds T))) _ (and_parts (eqb (length row) T.products) _ takes).1).1)
 
     -- there is room for one more package
-    few : T.packages < 128
+    pub few : T.packages < 128
     few = omega (arith, free_few T.products T.rows T.played T.rounds latest is_latest room free, table_roll T, T.few_rounds)
 
     -- the bid's cells are written at its place
@@ -140,11 +140,11 @@ module _ (T : Table) where
 
   -- who stood before round t
   module _ (t place : ℕ) (in_time : t ≤ T.rounds) (on_roll : place < T.packages) where
-    stood_listed : (s : ℕ) → s < t → bid_of T.played s ≡ Some place → listed (roll (before t)) (row_at T.products T.rows place) ≡ true
+    pub stood_listed : (s : ℕ) → s < t → bid_of T.played s ≡ Some place → listed (roll (before t)) (row_at T.products T.rows place) ≡ true
     stood_listed s h e =
         stood_on_roll (before t) s (row_at T.products T.rows place) (bid_stood T.products T.rows T.played t s place h e)
 
-    unstood_unlisted : ((s : ℕ) → s < t → bid_of T.played s ≢ Some place) → listed (roll (before t)) (row_at T.products T.rows place) ≡ false
+    pub unstood_unlisted : ((s : ℕ) → s < t → bid_of T.played s ≢ Some place) → listed (roll (before t)) (row_at T.products T.rows place) ≡ false
     unstood_unlisted none = elim (cases_Bool (listed (roll (before t)) (row_at T.products T.rows place))) [
       | inl on ↦
           let s = roll_stood (before t) (row_at T.products T.rows place) on in
@@ -156,7 +156,7 @@ module _ (T : Table) where
 
   -- the bid of the latest round, and the roll without it
   module _ (latest place : ℕ) (is_latest : latest + 1 ≡ T.rounds) (bid : bid_of T.played latest ≡ Some place) where
-    latest_on_roll : place < T.packages
+    pub latest_on_roll : place < T.packages
     latest_on_roll = T.within latest place (omega arith) bid
 
     last_enrols : enrolled (roll (before latest)) (Some (row_at T.products T.rows place)) ≡ packages_of T.products T.rows T.packages

@@ -17,7 +17,7 @@ use Rattle.tables.specs.View.{rounds}
 use Rattle.tables.specs.declared.table.Table.{Table}
 
 -- a bid that was read by its place
-mapped_some : {X Y : Type 0} (f : X → Y) (o : Option X) (y : Y) → option_map f o ≡ Some y → (x : X) × (o ≡ Some x) × (f x ≡ y)
+pub mapped_some : {X Y : Type 0} (f : X → Y) (o : Option X) (y : Y) → option_map f o ≡ Some y → (x : X) × (o ≡ Some x) × (f x ≡ y)
 mapped_some f None y h = absurd (none-some y h)
 mapped_some f (Some x) y h = (x, refl, same_Some (f x) y h)
 

@@ -1,7 +1,7 @@
 -- Bytes laid over a buffer, and the digits of a number.
-use Rattle.std.proofs.Common.{◌≡◌, ℕ, zero, suc, max, ◌+◌, ◌*◌, ◌/◌, ◌%◌, ◌^◌, ◌<◌, ◌≤◌, Some, List, [], ◌∷◌, ◌++◌, length, take, drop, set, ℤ, pos, negsuc, nat_abs, decimal, sym, refl, ap, ◌∙◌, arith, length-append, append_assoc}
+use Rattle.std.proofs.Common.{◌≡◌, ℕ, zero, suc, max, ◌+◌, ◌-◌, ◌*◌, ◌/◌, ◌%◌, ◌^◌, ◌<◌, ◌≤◌, Some, List, [], ◌∷◌, ◌++◌, length, take, drop, set, ℤ, pos, negsuc, nat_abs, decimal, sym, refl, ap, ◌∙◌, arith, append-nil, length-append, length-drop, append_assoc}
 use Rattle.std.proofs.lemmas.Fmt.{decimal_by_steps, decimal_digit, decimal_step}
-use Rattle.std.proofs.lemmas.List.{drop-drop}
+use Rattle.std.proofs.lemmas.List.{drop-drop, drop_all, length-take-le}
 use Rattle.std.proofs.lemmas.List.Edits.{sets, sets-eq}
 use Rattle.std.proofs.Math.Nat.{one-le-pow, pow-succ'}
 use Rattle.std.proofs.Math.Numerals.{add-one}
@@ -33,6 +33,16 @@ laid_mid buf at k bytes written room many same =
     ap (λ ys. put_mid at k buf ys) same
     ∙ ap (λ l. take at buf ++ (bytes ++ l)) behind
     ∙ sym (laid_sets buf at bytes ∙ sets-eq bytes buf at room ∙ append_assoc (take at buf) bytes (drop (at + length bytes) buf))
+
+-- bytes that were written over a part of their own length are laid over the whole there
+pub wrote_part : (buf : List ℕ) (at end : ℕ) (bytes : List ℕ) (last : ℕ) (after : List ℕ)
+    → end ≤ length buf → end ≡ at + length bytes → Wrote (take (end - at) (drop at buf)) 0 bytes (Some last) after → Wrote buf at bytes (Some end) (put_mid at (end - at) buf after)
+wrote_part buf at end bytes last after room many h =
+    let part = take (end - at) (drop at buf) in
+    let long : length part ≡ length bytes = length-take-le (end - at) (drop at buf) (omega (arith, room, length-drop at buf)) ∙ omega (arith, many) in
+    let all : laid part 0 bytes ≡ bytes =
+    laid_sets part 0 bytes ∙ sets-eq bytes part 0 (omega (arith, long)) ∙ ap (λ l. bytes ++ l) (drop_all (0 + length bytes) part (omega (arith, long))) ∙ append-nil bytes in
+    (omega (arith, room, many), many, laid_mid buf at (end - at) bytes after (omega (arith, room, many)) (omega (arith, many)) (h.2 ∙ all))
 
 -- more bytes were written behind those that are there
 pub wrote_more : (buf : List ℕ) (at : ℕ) (xs : List ℕ) (mid : ℕ) (part ys : List ℕ) (end : ℕ) (after : List ℕ)

@@ -61,8 +61,11 @@ fn write_row<F: Field>(letter: u8, row: &[F], out: &mut [u8], at: usize) -> Opti
     }
     out[at] = letter;
     let mut next = at + 1;
+    // Each place is cut out first, so that the room is tested once, above.
     for number in row {
-        next = number.write(out, next)?;
+        let end = next + F::WIDTH;
+        number.write(&mut out[next..end], 0)?;
+        next = end;
     }
     Some(next)
 }

@@ -19,7 +19,7 @@ mapped_back f (Some x) y h = (x, refl, cc)
 
 module _ (G : Group) {X : Type 0} (m : X → G.Carrier) where
   module _ (n : ℕ) (q q' : Queue X) (fit : Fit G m n q) where
-    take_leaves : Laws G → (e : Entry X) → TakenOut G m q e q' → Leaves G (keys G m q) (keys G m q') (Some e.«package»)
+    pub take_leaves : Laws G → (e : Entry X) → TakenOut G m q e q' → Leaves G (keys G m q) (keys G m q') (Some e.«package»)
     take_leaves L e done =
         let first = done.first fit.sound in (
           m e.key,

@@ -1,9 +1,9 @@
 -- Rows of values and of marks, as they are read, and the search as it is written.
-use Rattle.std.proofs.Common.{◌≡◌, ℕ, ◌<◌, ◌≤◌, ◌≢◌, List, map, length, get_or, set, take, replicate, sym, refl, ap, ◌∙◌, arith, get_or-set_other, get_or-set_same}
+use Rattle.std.proofs.Common.{◌≡◌, ℕ, ◌<◌, ◌≢◌, List, map, length, get_or, set, take, replicate, sym, refl, ap, ◌∙◌, arith, get_or-set_other, get_or-set_same}
 use native.Mathlib.Decide.{ℕ_discrete, dec_lt}
 use lib.ListN.{length-replicate}
 use lib.Seq.{map-set}
-use Rattle.std.proofs.lemmas.List.{length-map, get_or-map, get_or_past, get_or-replicate, get_or-take, length-take-le}
+use Rattle.std.proofs.lemmas.List.{length-map, get_or-map, get_or_past, get_or-replicate, get_or-take, take-map}
 use Rattle.paths.specs.Graph.{Graph}
 use Rattle.paths.specs.Searching.{Begun, Finish, Put}
 use Rattle.weigh.specs.Reads.{state}
@@ -23,8 +23,8 @@ module _ {K A : Type 0} (f : K → A) (d : A) where
   read_is ks z k h e = get_or-map f ks z k d h ∙ ap f (sym e)
 
   -- what is read of the first n elements
-  pub read_taken : (n : ℕ) (ks : List K) (z : ℕ) (e : K) → z < n → n ≤ length ks → get_or (map f (take n ks)) z d ≡ get_or (map f ks) z d
-  read_taken n ks z e h l = get_or-map f (take n ks) z e d (omega (arith, length-take-le n ks l)) ∙ ap f (get_or-take n ks z e h) ∙ sym (get_or-map f ks z e d (omega arith))
+  pub read_taken : (n : ℕ) (ks : List K) (z : ℕ) → z < n → get_or (map f (take n ks)) z d ≡ get_or (map f ks) z d
+  read_taken n ks z h = ap (λ ys. get_or ys z d) (sym (take-map f n ks)) ∙ get_or-take n (map f ks) z d h
 
   -- what a write leaves as it was
   pub read_kept : (ks : List K) (z w : ℕ) (k e : K) → z < length ks → f k ≡ f (get_or ks z e) → get_or (map f (set ks z k)) w d ≡ get_or (map f ks) w d

@@ -32,15 +32,14 @@ impl<W: OrderedWorth> Trial<'_, W> {
         least
     }
 
-    // The worths before the bid: the inner worths, and where its package is new, the one with which it comes in.
-    pub(crate) fn worths_before(&self) -> [W; 128]
-        ensures { Before W.Worth.group W.Worth.meaning (rounds self.now.table.now) self.now.place (self.now.place == self.now.enrolled) self.now.inner.now (worths W.Worth.group W.Worth.meaning result) }
+    // Writes the worths before the bid: the inner worths, and where its package is new, the one with which it comes in. The
+    // array is lent: one that is handed back is copied on the way.
+    pub(crate) fn worths_before(&self, before: &mut [W; 128])
+        ensures { Before W.Worth.group W.Worth.meaning (rounds self.now.table.now) self.now.place (self.now.place == self.now.enrolled) self.now.inner.now (worths W.Worth.group W.Worth.meaning before.new) }
     {
-        let mut before = [W::zero(); 128];
-        before.copy_from_slice(&self.inner[..128]);
+        *before = *self.inner.first_chunk().unwrap();
         if self.place == self.enrolled {
             before[self.place] = self.entry();
         }
-        before
     }
 }

@@ -1,6 +1,7 @@
 //! What a search holds of each package.
 
-ghost use Rattle.weigh.specs.Reads.{Unfinished};
+ghost use Rattle.std.specs.Prelude.{◌≡◌, ℕ};
+ghost use Rattle.weigh.specs.Reads.{Unfinished, state};
 
 use worth::{OrderedWorth, Worth};
 
@@ -15,19 +16,14 @@ pub(crate) struct Mark<W> {
     pub(crate) round: u8,
 }
 
-// The marks of packages at these worths: there are no links, and nothing is finished.
-pub(crate) fn marks_at<W: OrderedWorth>(worths: &[W; 128]) -> [Mark<W>; 128]
-    ensures { Unfinished W.Worth.group W.Worth.meaning worths.now result }
+// Writes the marks of packages at these worths, over marks by which nothing is finished. The array is
+// lent: one that is handed back is copied on the way.
+pub(crate) fn marks_at<W: OrderedWorth>(worths: &[W; 128], marks: &mut [Mark<W>; 128])
+    requires { (y : ℕ) → (state W.Worth.group W.Worth.meaning marks.old).turn y ≡ 0 }
+    ensures { Unfinished W.Worth.group W.Worth.meaning worths.now marks.new }
 {
-    let mut marks = [Mark {
-        worth: W::zero(),
-        turn: 0,
-        from: 0,
-        round: 0,
-    }; 128];
-    // By place: the size of `map`'s iterator over the worths is not bounded by anything known.
+    // By place: of what is written through an adapter of `iter_mut` no proof knows anything.
     for (y, worth) in worths.iter().enumerate() {
         marks[y].worth = *worth;
     }
-    marks
 }

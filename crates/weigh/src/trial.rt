@@ -3,7 +3,7 @@
 ghost use Rattle.std.specs.Prelude.{◌<◌, ◌≤◌, length};
 
 use crate::answer::{Held, Refused};
-use crate::mark::marks_at;
+use crate::mark::{Mark, marks_at};
 use crate::search::Search;
 use paths::Step;
 use queue::Entry;
@@ -38,8 +38,15 @@ impl<W: OrderedWorth> Trial<'_, W> {
         requires { (128 ≤ length heap.old) × ((128 ≤ length chain.old) × (128 ≤ length after.old)) }
         ensures { WeighsTrial W.Worth.group W.Worth.meaning (rounds self.entry.table.now) self.entry.place (self.entry.place == self.entry.enrolled) self.entry.inner.now (record { chain = chain.entry.now; worths = after.old }) (record { chain = chain.exit.now; worths = after.new }) result }
     {
-        let before = self.worths_before();
-        let mut marks = marks_at(&before);
+        let mut before = [W::zero(); 128];
+        self.worths_before(&mut before);
+        let mut marks = [Mark {
+            worth: W::zero(),
+            turn: 0,
+            from: 0,
+            round: 0,
+        }; 128];
+        marks_at(&before, &mut marks);
         let place = self.place;
         let mut search = Search::new(self, &before, &mut marks, heap);
         match search.run() {

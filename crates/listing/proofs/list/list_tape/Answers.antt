@@ -1,4 +1,4 @@
-use Rattle.std.proofs.Common.{◌≡◌, ℕ, List, [], cond, ◌++◌, is_ok, Err, vec_items, sym, append-nil, rules}
+use Rattle.std.proofs.Common.{ℕ, List, [], Err, vec_items, sym, append-nil}
 use Rattle.listing.proofs.Listings.{appended}
 use Rattle.listing.specs.Tapes.{Listed, too_long, no_header}
 use Rattle.listing.specs.Text.{error_text, line}
@@ -17,8 +17,5 @@ refused t CutOff h = absurd h
 pub returns-in-Err : goal.returns-in-Err
 returns-in-Err c =
     let old = vec_items c.args.text.now in
-    let after = vec_items c.extend_from_slice.new.self in
-    let r = c.extend_from_slice.result in
-    let said = line (error_text c.in-Err.error) in
-    let added : after ≡ cond (is_ok r) (old ++ said) old = search rules in
-    appended (Listed c.args.tape.now) old [] said old after r (sym (append-nil old)) added (refused c.args.tape.now c.in-Err.error c.in-Err.ensures.reads)
+    let after = vec_items c.push_error.new.text in
+    appended (Listed c.args.tape.now) old [] (line (error_text c.in-Err.error)) old after c.push_error.result (sym (append-nil old)) c.push_error.ensures (refused c.args.tape.now c.in-Err.error c.in-Err.ensures.reads)

@@ -1,20 +1,34 @@
-use Rattle.std.proofs.Common.{◌≡◌, ◌^◌, ◌∷◌, [], Ok, Err, MatchResult, refl, arith, rules}
+use Rattle.std.proofs.Common.{◌≡◌, ◌^◌, ◌∷◌, [], Ok, Err, refl, arith, rules}
+use Rattle.std.proofs.lemmas.Result.{err_from_is_err_and}
 use Rattle.std.proofs.lemmas.Slice.Eq.{text_from_reads}
 use Rattle.listing.proofs.RowWords.{row_read}
 use Rattle.listing.specs.Lines.{words}
+use Rattle.listing.specs.declared.error.LineError.{LineError}
 use Rattle.tape.specs.declared.record.Record.TheVariants.{Open, Offer}
 use Rattle.listing.proofs.read.read_record.Goals as goal
 
-pub returns-in-O : goal.returns-in-O
-returns-in-O c =
-    let ws = words c.args.text.now in
+pub returns-in_err-read_row-in-O : goal.returns-in_err-read_row-in-O
+returns-in_err-read_row-in-O c =
     let word : c.args.word.now ≡ 79 ∷ [] = text_from_reads c.args.word.now (79 ∷ []) (omega arith) (search rules, tt) in
-    let same : MatchResult c.read_row.result (λ x. c.map.result ≡ Ok (Open x)) (λ e. c.map.result ≡ Err e) = search rules in
-    rw word (row_read c.args.n 79 (2 ^ 32) Open (λ row. refl) (λ row. refl) (λ row. refl) (λ row h. h) (λ row h. h) ws c.read_row.result c.map.result c.requires c.read_row.ensures same)
+    let bad = c.in_err-read_row-in-O.field-0.0 in
+    rw ((err_from_is_err_and c.from_residual.result c.from_residual.ensures.1).1, word)
+    (row_read {E = LineError} c.args.n 79 (2 ^ 32) Open (λ row. refl) (λ row. refl) (λ row. refl) (λ row h. h) (λ row h. h) (words c.args.text.now) (Err bad) (Err bad) c.requires c.in_err-read_row-in-O.ensures refl)
 
-pub returns-in-T : goal.returns-in-T
-returns-in-T c =
-    let ws = words c.args.text.now in
+pub returns-in_err-read_row-in-T : goal.returns-in_err-read_row-in-T
+returns-in_err-read_row-in-T c =
     let word : c.args.word.now ≡ 84 ∷ [] = text_from_reads c.args.word.now (84 ∷ []) (omega arith) (search rules, tt) in
-    let same : MatchResult c.read_row-in-T.result (λ x. c.map-in-T.result ≡ Ok (Offer x)) (λ e. c.map-in-T.result ≡ Err e) = search rules in
-    rw word (row_read c.args.n 84 (2 ^ 8) Offer (λ row. refl) (λ row. refl) (λ row. refl) (λ row h. h) (λ row h. h) ws c.read_row-in-T.result c.map-in-T.result c.requires c.read_row-in-T.ensures same)
+    let bad = c.in_err-read_row-in-T.field-0.0 in
+    rw ((err_from_is_err_and c.from_residual-in_err-read_row-in-T.result c.from_residual-in_err-read_row-in-T.ensures.1).1, word)
+    (row_read {E = LineError} c.args.n 84 (2 ^ 8) Offer (λ row. refl) (λ row. refl) (λ row. refl) (λ row h. h) (λ row h. h) (words c.args.text.now) (Err bad) (Err bad) c.requires c.in_err-read_row-in-T.ensures refl)
+
+pub returns-in_ok-read_row-in-O : goal.returns-in_ok-read_row-in-O
+returns-in_ok-read_row-in-O c =
+    let word : c.args.word.now ≡ 79 ∷ [] = text_from_reads c.args.word.now (79 ∷ []) (omega arith) (search rules, tt) in
+    let row = c.in_ok-read_row-in-O.field-0 in
+    rw word (row_read {E = LineError} c.args.n 79 (2 ^ 32) Open (λ row. refl) (λ row. refl) (λ row. refl) (λ row h. h) (λ row h. h) (words c.args.text.now) (Ok row) (Ok (Open row)) c.requires c.in_ok-read_row-in-O.ensures refl)
+
+pub returns-in_ok-read_row-in-T : goal.returns-in_ok-read_row-in-T
+returns-in_ok-read_row-in-T c =
+    let word : c.args.word.now ≡ 84 ∷ [] = text_from_reads c.args.word.now (84 ∷ []) (omega arith) (search rules, tt) in
+    let row = c.in_ok-read_row-in-T.field-0 in
+    rw word (row_read {E = LineError} c.args.n 84 (2 ^ 8) Offer (λ row. refl) (λ row. refl) (λ row. refl) (λ row h. h) (λ row h. h) (words c.args.text.now) (Ok row) (Ok (Offer row)) c.requires c.in_ok-read_row-in-T.ensures refl)

@@ -2,13 +2,10 @@ use Rattle.std.proofs.Common.{◌<◌, length, get_or, set, sym, refl, ap, ◌�
 use native.Mathlib.Decide.{ℕ_discrete}
 use Rattle.std.proofs.lemmas.List.{get_or-map}
 use Rattle.tables.specs.Known.{worths}
-use Rattle.weigh.proofs.Read.{read_alike, read_kept, read_other, read_same}
+use Rattle.weigh.proofs.Read.{read_kept, read_other, read_same}
 use Rattle.weigh.specs.Reads.{state}
 use Rattle.weigh.specs.declared.mark.Mark.{Mark}
 use Rattle.weigh.proofs.mark.marks_at.Goals as goal
-
-pub loop-y-init : goal.loop-y-init
-loop-y-init g c = ((λ z l. absurd (omega arith)), (λ z. read_alike {K = Mark g.row.W.Denot} (λ k. k.turn) 0 128 z (record { worth = c.zero.result; turn = 0; from = 0; round = 0 }) refl), search rules)
 
 pub loop-y-preserved : goal.loop-y-preserved
 loop-y-preserved g c =

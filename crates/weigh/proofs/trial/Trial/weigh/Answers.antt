@@ -6,13 +6,21 @@ use Rattle.paths.specs.Weighs.{IsAround, IsHeldAt, Known}
 use Rattle.tables.proofs.Views.{table_roll, table_rounds}
 use Rattle.tables.specs.Known.{worths}
 use Rattle.tables.specs.View.{rounds}
+use Rattle.weigh.proofs.Read.{read_alike}
 use Rattle.weigh.proofs.Room.{fewer, marks_fit}
 use Rattle.weigh.specs.Reads.{state}
 use Rattle.weigh.specs.Traces.{Closed, TracedOut}
+use Rattle.weigh.specs.declared.mark.Mark.{Mark}
 use Rattle.weigh.proofs.trial.Trial.weigh.Goals as goal
 
-pub marks_at-marks-requires : goal.marks_at-marks-requires
-marks_at-marks-requires g c = (fewer (length c.args.after.now) 128 _ c.requires.1.1 (search rules), marks_fit (lone g.row.W.mir) (length c.args.heap.now) c.requires.0 (search rules))
+pub marks_at-requires : goal.marks_at-requires
+marks_at-requires g c = (
+  fewer (length c.args.after.now) 128 _ c.requires.1.1 (search rules),
+  (
+    marks_fit (lone g.row.W.mir) (length c.args.heap.now) c.requires.0 (search rules),
+    λ y. read_alike {K = Mark g.row.W.Denot} (λ k. k.turn) 0 128 y (record { worth = c.zero.result; turn = 0; from = 0; round = 0 }) refl,
+  ),
+)
 
 pub whole_as_slice-new : goal.whole_as_slice-new
 whole_as_slice-new g c = marks_fit (lone g.row.W.mir) (length c.args.heap.now) c.requires.0 (search rules)
@@ -27,7 +35,7 @@ returns-in-Ok g c =
     let made = c.new-search.ensures in
     let first = c.new-search.result in
     let search = c.run.new.self in
-    let d = worths G m c.worths_before-before.result in
+    let d = worths G m c.worths_before.new.before in
     let st = state G m search.marks.now in
     let moved = c.in-Ok.moved in
     let same : search.trial ≡ trial = c.in-Ok.ensures.same.trial ∙ made.trial in
@@ -43,7 +51,7 @@ returns-in-Ok g c =
       (
         d,
         st,
-        c.worths_before-before.ensures,
+        c.worths_before.ensures,
         record {
           dists = λ y l. c.write_worths.ensures.written y (rw count l);
           held = ends;
@@ -63,7 +71,7 @@ returns-in-Err g c =
     let search = c.run.new.self in
     let last = c.in-Err.closing.last in
     let round = c.in-Err.closing.round in
-    let d = worths G m c.worths_before-before.result in
+    let d = worths G m c.worths_before.new.before in
     let st = state G m search.marks.now in
     let same : search.trial ≡ trial = c.in-Err.ensures.same.trial ∙ made.trial in
     let ends : Known G (graph_of G R) (Earlier R) d → IsAround G (graph_of G R) (Earlier R) d trial.place (length R - 1) st last round =
@@ -78,7 +86,7 @@ returns-in-Err g c =
       (
         d,
         st,
-        c.worths_before-before.ensures,
+        c.worths_before.ensures,
         record {
           around = λ k. (last, round, ends k);
           traced = λ k.
